@@ -1,0 +1,6 @@
+pub mod Refusals
+pub mod Parts
+pub mod Chosen
+pub mod Samples
+pub mod Instructions
+pub mod Lists

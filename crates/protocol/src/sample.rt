@@ -1,0 +1,12 @@
+//! One sample of the input pins.
+mod calls;
+
+// The levels: chip select, clock, data in, organisation, protect enable.
+#[derive(Clone, Copy, Drop, PartialEq, Eq, Debug)]
+pub struct Sample {
+    pub cs: bool,
+    pub sk: bool,
+    pub di: bool,
+    pub org: bool,
+    pub pe: bool,
+}
