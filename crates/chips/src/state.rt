@@ -32,7 +32,7 @@ pub struct State {
 }
 
 // How an instruction fared, numbered 0 to 3.
-#[derive(Clone, Copy)]
+#[derive(Clone, Copy, Drop, PartialEq, Eq, Debug)]
 pub enum Verdict {
     CarriedOut,
     Shut,

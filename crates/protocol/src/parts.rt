@@ -1,6 +1,8 @@
 //! The table of parts.
 mod calls;
 
+pub use calls::table_agrees;
+
 // A part, by the number that ends its name.
 #[derive(Clone, Copy, Drop, PartialEq, Eq, Debug)]
 pub enum Part {

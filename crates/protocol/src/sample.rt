@@ -1,6 +1,8 @@
 //! One sample of the input pins.
 mod calls;
 
+pub use calls::first_high;
+
 // The levels: chip select, clock, data in, organisation, protect enable.
 #[derive(Clone, Copy, Drop, PartialEq, Eq, Debug)]
 pub struct Sample {
