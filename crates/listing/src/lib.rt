@@ -1,0 +1,3 @@
+//! The listing of a trace file, as text.
+mod lines;
+mod show;
