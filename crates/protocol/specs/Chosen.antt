@@ -26,6 +26,10 @@ hasClock C66 = false
 hasClock C76 = true
 hasClock C86 = true
 
+abbrev pub isOffered : Part → Edition → Bool
+isOffered part Fall = true
+isOffered part Clock = hasClock part
+
 abbrev pub editionOf : Part → ℕ → Option Edition
 editionOf part number = cond (eqb number 0) (Some Fall) (cond (eqb number 1) (cond (hasClock part) (Some Clock) None) None)
 

@@ -1,6 +1,8 @@
 //! From settings to a chip that exists.
 ghost use mathlib.Core.Path.{_≡_};
-ghost use Rattle.protocol.specs.Chosen.{setupOf};
+ghost use mathlib.Core.Bool.{true};
+ghost use Rattle.std.specs.Vec.{made};
+ghost use Rattle.protocol.specs.Chosen.{setupOf, isOffered};
 use crate::parts::Part;
 use crate::refusal::Cause;
 use crate::refusal::Refusal;
@@ -11,7 +13,8 @@ use crate::settings::Setup;
 impl Settings {
     // The clock edition is made of the 76 and the 86 alone.
     pub fn check(self) -> Result<Setup, Refusal>
-        ensures { λ r. ⌜ r ≡ setupOf self ⌝ }
+        ensures is { λ r. ⌜ r ≡ setupOf self ⌝ }
+        ensures offered { λ r. ⌜ made r (λ setup. isOffered (setup .part) (setup .edition) ≡ true) ⌝ }
     {
         let cycles = self.cycles;
         match (Part::from_number(self.part), self.edition) {

@@ -1,0 +1,3 @@
+pub mod Powered
+pub mod Meaning
+pub mod Traced

@@ -1,0 +1,3 @@
+//! Models of the two editions, over the caller's memory.
+mod bytes;
+pub mod model;
