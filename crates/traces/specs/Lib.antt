@@ -1,2 +1,4 @@
 pub mod Entries
 pub mod Reading
+pub mod Account
+pub mod Replaying
