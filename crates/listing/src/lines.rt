@@ -44,7 +44,11 @@ fn last_line(heap: Global, count: usize, answer: Result<(), Refusal>) -> Result<
 }
 
 // Header, a line for each entry, and how it ended.
-pub fn text_of(heap: Global, entries: &[Entry], answer: Result<(), Refusal>) -> Result<String, AllocError>
+pub fn text_of(
+    heap: Global,
+    entries: &[Entry],
+    answer: Result<(), Refusal>,
+) -> Result<String, AllocError>
     ensures { λ r. ⌜ made r (λ s. string-bytes s ≡ listingText (now (entries .entry)) answer) ⌝ }
 {
     let mut text = String::from_str(heap, "kind address data width first last verdict\n")?;

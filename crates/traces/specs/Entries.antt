@@ -53,16 +53,34 @@ entryOf start place Nothing = None
 entryOf start place (Start width) = None
 entryOf start place (Address width cell) =
     Some (record {
-      kind = Some Read; address = Some cell; «data» = None; width = width; first = start .place; last = place; verdict = CarriedOut;
+      kind = Some Read;
+      address = Some cell;
+      «data» = None;
+      width = width;
+      first = start .place;
+      last = place;
+      verdict = CarriedOut;
     })
 entryOf start place (Data width cell next) = None
 entryOf start place (Instruction kind width cell value verdict) =
     Some (record {
-      kind = Some kind; address = addressOf kind cell; «data» = dataOf kind value; width = width; first = start .place; last = place; verdict = verdict;
+      kind = Some kind;
+      address = addressOf kind cell;
+      «data» = dataOf kind value;
+      width = width;
+      first = start .place;
+      last = place;
+      verdict = verdict;
     })
 entryOf start place WrongCount =
     Some (record {
-      kind = None; address = None; «data» = None; width = start .width; first = start .place; last = place; verdict = WrongCountOf;
+      kind = None;
+      address = None;
+      «data» = None;
+      width = start .width;
+      first = start .place;
+      last = place;
+      verdict = WrongCountOf;
     })
 
 abbrev pub before : {T : Type 0} → Option T → List T → List T

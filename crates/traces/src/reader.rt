@@ -42,7 +42,11 @@ fn list_entries(setup: Setup, samples: &[u8], entries: &mut List<Entry>) -> Resu
 }
 
 // Adds the entries of a trace to a list. Where it has no room for one, those that fitted stay.
-pub fn read_trace(settings: Settings, samples: &[u8], entries: &mut List<Entry>) -> Result<(), Refusal>
+pub fn read_trace(
+    settings: Settings,
+    samples: &[u8],
+    entries: &mut List<Entry>,
+) -> Result<(), Refusal>
     ensures { λ r. ⌜ WasRead settings (now (samples .entry)) (now (entries .entry)) (now (entries .exit)) r ⌝ }
 {
     let setup = check(settings, samples)?;

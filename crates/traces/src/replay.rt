@@ -19,9 +19,17 @@ use protocol::settings::Settings;
 use protocol::settings::Setup;
 
 // Every sample brings its own levels, so that the straps do not matter.
-const STRAPS: Straps = Straps { org: true, pe: true };
+const STRAPS: Straps = Straps {
+    org: true,
+    pe: true,
+};
 
-fn check_replay(settings: Settings, memory: usize, samples: &[u8], buffer: usize) -> Result<Setup, Refusal>
+fn check_replay(
+    settings: Settings,
+    memory: usize,
+    samples: &[u8],
+    buffer: usize,
+) -> Result<Setup, Refusal>
     ensures { λ r. ⌜ r ≡ replayable settings memory (now (samples .entry)) buffer ⌝ }
 {
     let place = first_high(samples);

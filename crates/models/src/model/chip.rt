@@ -20,7 +20,11 @@ pub impl Chip for Model<'_> as ModelChip {
         if self.blank {
             return (0, 0, 0);
         }
-        (self.control.setup().part.row().number, self.org as u8, self.pe as u8)
+        (
+            self.control.setup().part.row().number,
+            self.org as u8,
+            self.pe as u8,
+        )
     }
 
     fn put(&mut self, cs: bool, sk: bool, di: bool) -> u8 {

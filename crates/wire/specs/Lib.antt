@@ -1,0 +1,6 @@
+pub mod Frames
+pub mod Runs
+pub mod Polling
+pub mod Hearing
+pub mod Places
+pub mod Laws
