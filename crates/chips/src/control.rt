@@ -4,6 +4,7 @@ ghost use Rattle.chips.specs.Fits.{countIn, valueIn, cellIn, cellsIn, nextIn, 
 use crate::state::State;
 use protocol::settings::Setup;
 
+mod calls;
 mod steps;
 
 #[derive(Clone, Copy)]

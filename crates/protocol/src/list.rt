@@ -3,6 +3,7 @@ ghost use denote.Ref.{now};
 ghost use Prim.Native.Nat.{_≤_};
 ghost use lib.ListN.{length};
 
+mod adding;
 mod calls;
 
 #[derive(Drop)]

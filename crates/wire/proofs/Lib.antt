@@ -1,0 +1,9 @@
+pub mod Bits
+pub mod Coded
+pub mod Taking
+pub mod Carrying
+pub mod Resting
+pub mod Polls
+pub mod Keeping
+pub mod Hears
+pub mod Cells

@@ -4,8 +4,7 @@ ghost use mathlib.Core.Bool.{true, false, not, _&&_};
 ghost use Prim.Native.Nat.{_^_, _<_, _≤_};
 ghost use lib.Dec.{eqb};
 ghost use Rattle.protocol.specs.Instructions.{lengthOf, kindAt};
-ghost use Rattle.chips.specs.Control.{isClockEdition, verdictOf, instructionAt, begun, obeyed, ending, rested, isClock, taken, appended, turned, turn, powerUp};
-ghost use Rattle.chips.specs.Machine.{held};
+ghost use Rattle.chips.specs.Control.{isClockEdition, verdictOf, instructionAt, begun, obeyed, ending, rested, isClock, taken, appended, turned, turn};
 ghost use Rattle.chips.specs.Fits.{DecisionFits};
 use crate::bits::append;
 use crate::bits::cell_at;
@@ -18,49 +17,13 @@ use crate::bits::value_at;
 use crate::control::Control;
 use crate::state::Decision;
 use crate::state::Phase;
-use crate::state::State;
 use crate::state::Verdict;
 use protocol::instruction::Kind;
 use protocol::parts::Width;
 use protocol::sample::Sample;
 use protocol::settings::Edition;
-use protocol::settings::Setup;
 
 impl Control {
-    // A chip at power-up.
-    pub fn new(setup: Setup) -> Control
-        ensures setup { λ r. ⌜ r .setup ≡ setup ⌝ }
-        ensures state { λ r. ⌜ r .state ≡ powerUp ⌝ }
-    {
-        let state = State {
-            enabled: false,
-            left: 0,
-            status: false,
-            cs: false,
-            sk: false,
-            phase: Phase::Waiting,
-        };
-        Control { setup, state }
-    }
-
-    pub fn setup(&self) -> Setup
-        ensures { λ r. ⌜ r ≡ now (self .entry) .setup ⌝ }
-    {
-        self.setup
-    }
-
-    // DO where no data bit comes, after a sample before which it was `out`.
-    pub fn hold(&self, out: u8) -> u8
-        ensures { λ r. ⌜ r ≡ held (now (self .entry) .state) (now (self .entry) .state .phase) out ⌝ }
-    {
-        match (self.state.phase, self.state.status) {
-            (Phase::Reading { .. }, _) => out,
-            (_, false) => 2,
-            (_, true) if self.state.left == 0 => 1,
-            _ => 0,
-        }
-    }
-
     fn is_clock_edition(&self) -> bool
         ensures { λ r. ⌜ r ≡ isClockEdition (now (self .entry) .setup .edition) ⌝ }
     {

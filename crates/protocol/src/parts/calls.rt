@@ -1,7 +1,7 @@
 //! What is looked up in the table.
 ghost use mathlib.Core.Path.{_≡_};
 ghost use Prim.Native.Nat.{_*_, _≤_, _<_};
-ghost use Rattle.protocol.specs.Parts.{rowOf, partNumbered, bitsOf, bytesIn, onesOf, bytesOf, layoutOf, cellsOf, fieldOf, widthBy, Table-agrees};
+ghost use Rattle.protocol.specs.Parts.{rowOf, partNumbered, bitsOf, bytesIn, onesOf, bytesOf, layoutOf, cellsOf, fieldOf, widthBy, rows, agrees, every, Table-agrees};
 use crate::parts::Layout;
 use crate::parts::PARTS;
 use crate::parts::Part;
@@ -99,7 +99,8 @@ impl Part {
 
 // In every row the cells fill the bytes and the addresses name all cells.
 pub fn table_agrees() -> bool
-    ensures { λ _. ⌜ Table-agrees ⌝ }
+    ensures answer { λ r. ⌜ r ≡ every agrees rows ⌝ }
+    ensures all { λ _. ⌜ Table-agrees ⌝ }
 {
     true
 }

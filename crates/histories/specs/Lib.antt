@@ -1,0 +1,4 @@
+pub mod Events
+pub mod Book
+pub mod Alike
+pub mod Laws
