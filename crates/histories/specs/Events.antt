@@ -76,6 +76,10 @@ module _ {V : Type 0} (next : V → Pins → Put → V) where
   abbrev pub endOf : List Call → Seen V → Seen V
   endOf xs chip = endFrom xs (state false false chip) .chip
 
+-- nothing is kept of the samples
+abbrev pub unseen : Unit {0} → Pins → Put → Unit {0}
+unseen v p x = tt
+
 -- The events of a new driver on a chip of this meaning, whatever else the chip keeps of the samples.
 abbrev pub eventsOn : List Call → Pins → List Event
-eventsOn xs p = eventsOf (λ _ _ _. tt) xs (record { view = tt; pins = p })
+eventsOn xs p = eventsOf unseen xs (record { view = tt; pins = p })
