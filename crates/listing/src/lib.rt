@@ -1,3 +1,4 @@
 //! The listing of a trace file, as text.
-mod lines;
+pub mod file;
+pub mod lines;
 mod show;
