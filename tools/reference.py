@@ -4,11 +4,12 @@ listing, in plain Python, written apart from the proved code so that the two can
 be compared.
 
     tools/reference.py list FILE    what the listing program must print for FILE
-    tools/reference.py run FILE     the DO level of each sample, one a line, then
-                                    a line `byte OFFSET VALUE` for each byte that
-                                    is not 255 at the end (all are 255 at first)
-
-A file that is refused gives the one line `refused NUMBER at PLACE` under `run`.
+    tools/reference.py replay FILE  what the replay program must print for FILE:
+                                    the listing; unless it was refused, a line
+                                    `do` with the levels of DO in order, each with
+                                    how many samples it lasts; and a line
+                                    `byte OFFSET VALUE` for each byte that is not
+                                    255 at the end (all are 255 at first)
 
 The expected output of crates/list_cases is remade from its files with this
 reference:
@@ -19,6 +20,9 @@ reference:
         echo "== $name"
         tools/reference.py list "crates/list_cases/data/$name"
     done < crates/list_cases/args > crates/list_cases/stdout
+
+and that of crates/replay_trace, whose files are some of the same, by `replay` in
+place of `list`.
 """
 
 import sys
@@ -333,26 +337,33 @@ def listing(file):
     return "".join(line + "\n" for line in lines)
 
 
-def run(file):
+def replay(file):
+    text = listing(file)
     try:
         settings, samples = parse(file)
         machine = checked_machine(settings, samples)
-    except Refused as refusal:
-        return f"{refusal}\n"
-    lines = []
+    except Refused:
+        return text
+    if text.splitlines()[-1].startswith("refused"):
+        return text
+    runs = []
     for sample in samples:
         machine.step(sample)
-        lines.append(str(machine.do))
+        if runs and runs[-1][0] == machine.do:
+            runs[-1][1] += 1
+        else:
+            runs.append([machine.do, 1])
+    lines = ["do" + "".join(f" {level} {count}" for level, count in runs)]
     for offset, value in enumerate(machine.memory):
         if value != 0xFF:
             lines.append(f"byte {offset} {value}")
-    return "".join(line + "\n" for line in lines)
+    return text + "".join(line + "\n" for line in lines)
 
 
 def main(arguments):
-    commands = {"list": listing, "run": run}
+    commands = {"list": listing, "replay": replay}
     if len(arguments) != 2 or arguments[0] not in commands:
-        sys.exit("usage: reference.py list FILE | run FILE")
+        sys.exit("usage: reference.py list FILE | replay FILE")
     with open(arguments[1], "rb") as source:
         file = source.read()
     sys.stdout.write(commands[arguments[0]](file))
