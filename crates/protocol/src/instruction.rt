@@ -13,7 +13,7 @@ pub enum Kind {
 }
 
 // An instruction to be sent. A READ fetches a number of words.
-#[derive(Clone, Copy, Drop, PartialEq, Eq, Debug)]
+#[derive(Clone, Copy)]
 pub enum Instruction {
     Read { address: u16, words: u16 },
     Write { address: u16, value: u16 },

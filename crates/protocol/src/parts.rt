@@ -4,7 +4,7 @@ mod calls;
 pub use calls::table_agrees;
 
 // A part, by the number that ends its name.
-#[derive(Clone, Copy, Drop, PartialEq, Eq, Debug)]
+#[derive(Clone, Copy)]
 pub enum Part {
     C46,
     C56,
@@ -21,13 +21,13 @@ pub enum Width {
 }
 
 // A part at one width: how many cells it has, and how many bits an address takes.
-#[derive(Clone, Copy, Drop, PartialEq, Eq, Debug)]
+#[derive(Clone, Copy)]
 pub struct Layout {
     pub cells: u16,
     pub field: u8,
 }
 
-#[derive(Clone, Copy, Drop, PartialEq, Eq, Debug)]
+#[derive(Clone, Copy)]
 pub struct Row {
     pub part: Part,
     pub number: u8,

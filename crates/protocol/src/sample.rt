@@ -4,7 +4,7 @@ mod calls;
 pub use calls::first_high;
 
 // The levels: chip select, clock, data in, organisation, protect enable.
-#[derive(Clone, Copy, Drop, PartialEq, Eq, Debug)]
+#[derive(Clone, Copy)]
 pub struct Sample {
     pub cs: bool,
     pub sk: bool,

@@ -1,12 +1,10 @@
 //! Which chip it is.
 use crate::parts::Part;
-use crate::parts::PartDebug;
-use crate::parts::PartPartialEq;
 
 mod calls;
 
 // When an instruction that changes cells is carried out.
-#[derive(Clone, Copy, Drop, PartialEq, Eq, Debug)]
+#[derive(Clone, Copy)]
 pub enum Edition {
     // as CS falls, and only at exactly its length
     Fall,
@@ -15,7 +13,7 @@ pub enum Edition {
 }
 
 // How many samples a programming cycle lasts.
-#[derive(Clone, Copy, Drop, PartialEq, Eq, Debug)]
+#[derive(Clone, Copy)]
 pub struct Cycles {
     // of WRITE and ERASE
     pub write: u16,
@@ -24,7 +22,7 @@ pub struct Cycles {
 }
 
 // A chip as a caller or a file names it, by numbers that may fit no chip.
-#[derive(Clone, Copy, Drop, PartialEq, Eq, Debug)]
+#[derive(Clone, Copy)]
 pub struct Settings {
     pub part: u8,
     pub edition: u8,
@@ -32,7 +30,7 @@ pub struct Settings {
 }
 
 // A chip that exists.
-#[derive(Clone, Copy, Drop, PartialEq, Eq, Debug)]
+#[derive(Clone, Copy)]
 pub struct Setup {
     pub part: Part,
     pub edition: Edition,

@@ -81,7 +81,13 @@ fn replay_file(rt: &LibcRuntime, file: &[u8]) -> Result<(), AnyError> {
     let mut memory = vec![in rt.alloc(); 255u8; size_of(taken)]?;
     let mut levels = vec![in rt.alloc(); 2u8; samples.len()]?;
     let answer = match taken {
-        Ok(settings) => replay(settings, &mut memory, samples.items(), &mut levels, &mut entries),
+        Ok(settings) => replay(
+            settings,
+            &mut memory,
+            samples.items(),
+            &mut levels,
+            &mut entries,
+        ),
         Err(refusal) => Err(refusal),
     };
     let text = text_of(rt.alloc(), entries.items(), answer)?;

@@ -69,12 +69,24 @@ impl Part {
         }
     }
 
+    // The layout, with what the table's agreement says of it.
+    fn agreed_layout(self, width: Width) -> Layout
+        ensures cells { λ r. ⌜ r .cells ≡ cellsOf self width ⌝ }
+        ensures some { λ r. ⌜ 0 < r .cells ⌝ }
+        ensures within { λ r. ⌜ r .cells * bytesIn width ≤ bytesOf self ⌝ }
+        ensures field { λ r. ⌜ r .field ≡ fieldOf self width ⌝ }
+        ensures least { λ r. ⌜ 6 ≤ r .field ⌝ }
+        ensures most { λ r. ⌜ r .field ≤ 11 ⌝ }
+    {
+        self.layout(width)
+    }
+
     pub fn cells(self, width: Width) -> u16
         ensures is { λ r. ⌜ r ≡ cellsOf self width ⌝ }
         ensures some { λ r. ⌜ 0 < r ⌝ }
         ensures within { λ r. ⌜ r * bytesIn width ≤ bytesOf self ⌝ }
     {
-        self.layout(width).cells
+        self.agreed_layout(width).cells
     }
 
     // How many bits an address takes.
@@ -83,7 +95,7 @@ impl Part {
         ensures least { λ r. ⌜ 6 ≤ r ⌝ }
         ensures most { λ r. ⌜ r ≤ 11 ⌝ }
     {
-        self.layout(width).field
+        self.agreed_layout(width).field
     }
 
     // The width in force at a level of ORG.
