@@ -1,0 +1,11 @@
+pub mod Views
+pub mod Cells
+pub mod Checks
+pub mod Keeping
+pub mod Sending
+pub mod Effects
+pub mod Truth
+pub mod Agreement
+pub mod Performs
+pub mod Going
+pub mod Carried

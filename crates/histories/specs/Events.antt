@@ -80,6 +80,12 @@ module _ {V : Type 0} (next : V → Pins → Put → V) where
 abbrev pub unseen : Unit {0} → Pins → Put → Unit {0}
 unseen v p x = tt
 
--- The events of a new driver on a chip of this meaning, whatever else the chip keeps of the samples.
+abbrev pub bareChip : Pins → Seen (Unit {0})
+bareChip p = record { view = tt; pins = p }
+
+-- The events of a new driver on a chip of this meaning, whatever else the chip keeps of the samples, and what the chip means in the end.
 abbrev pub eventsOn : List Call → Pins → List Event
-eventsOn xs p = eventsOf unseen xs (record { view = tt; pins = p })
+eventsOn xs p = eventsOf unseen xs (bareChip p)
+
+abbrev pub endOn : List Call → Pins → Pins
+endOn xs p = endOf unseen xs (bareChip p) .pins

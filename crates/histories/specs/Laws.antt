@@ -8,13 +8,23 @@ use Rattle.std.specs.declared.option.Option.{Option}
 use Rattle.std.specs.declared.option.Option.the-variants.{None, Some}
 use Rattle.protocol.specs.Parts.{onesOf}
 use Rattle.chips.specs.Fitting.{Fitting}
-use Rattle.chips.specs.Pins.{Pins, factsOf}
+use Rattle.chips.specs.Pins.{Pins, Put, factsOf}
+use Rattle.chips.specs.Seen.{Seen}
+use Rattle.protocol.specs.declared.settings.Setup.{Setup}
+use Rattle.chips.specs.Machine.{freshMachine, runOn}
+use Rattle.traces.specs.Account.{appliedAll}
+use Rattle.traces.specs.Entries.{entriesOf}
 use Rattle.wire.specs.Places.{widthOn}
 use Rattle.histories.specs.declared.call.Call.{Call}
 use Rattle.histories.specs.declared.call.Call.the-variants.{Greet, Settle, Open, Shut, Read, Run, Write, Erase, Fill, Clear}
-use Rattle.histories.specs.Events.{Event, eventsOn}
+use Rattle.histories.specs.Events.{Event, eventsOf, eventsOn, endOf, endOn}
 use Rattle.histories.specs.Book.{bookAfter}
 use Rattle.histories.specs.Alike.{wasProgramming, firstCells}
+
+-- What a chip keeps of the samples beside its meaning changes no event, and nothing of what the chip means in the end.
+abbrev pub Views-do-not-matter : Type 0 → Type 0
+Views-do-not-matter V = (next : V → Pins → Put → V) (calls : List Call) (chip : Seen V) →
+    (eventsOf next calls chip ≡ eventsOn calls (chip .pins)) × (endOf next calls chip .pins ≡ endOn calls (chip .pins))
 
 -- the address from which a call reads
 abbrev pub readsFrom : Call → Option ℕ
@@ -61,3 +71,14 @@ Chips-alike-answer-alike = (calls : List Call) (p q : Pins) (d : Event) → Fitt
     (i : ℕ) → i < length calls → Quiet (eventsOn calls p) (eventsOn calls q) d i →
     (getD (eventsOn calls p) i d .answer ≡ getD (eventsOn calls q) i d .answer)
     × (getD (eventsOn calls p) i d .words ≡ getD (eventsOn calls q) i d .words)
+
+-- the same of one history, against any other chip
+abbrev pub AnswersAlike : List Call → List Event → Pins → Pins → Event → Type 0
+AnswersAlike calls es p other d = Fitting other → factsOf p ≡ factsOf other → SameStart (firstCells es) (firstCells (eventsOn calls other)) →
+    (i : ℕ) → i < length calls → Quiet es (eventsOn calls other) d i →
+    (getD es i d .answer ≡ getD (eventsOn calls other) i d .answer) × (getD es i d .words ≡ getD (eventsOn calls other) i d .words)
+
+-- The listing accounts for the bytes: for whatever samples a trace holds, a chip at power-up ends with its old bytes altered by exactly the entries that were carried out, in order.
+abbrev pub Listing-accounts : Type 0
+Listing-accounts = (setup : Setup) (samples bytes : List ℕ) →
+    runOn (freshMachine setup bytes) samples .bytes ≡ appliedAll (setup .part) (entriesOf setup samples) bytes

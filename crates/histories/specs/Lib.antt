@@ -1,4 +1,5 @@
 pub mod Events
 pub mod Book
 pub mod Alike
+pub mod Performing
 pub mod Laws

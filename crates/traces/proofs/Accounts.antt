@@ -72,9 +72,14 @@ new-is setup samples l m u r =
     ap (λ (x : List Entry). drop (l .count) x) i
     ∙ drop-at (items l) (entriesOf setup samples) (l .count) (length-take-le (l .count) (now (l .slice)) (l .within))
 
--- from power-up: the bytes are the old ones changed by exactly the listed entries that were carried out, in order
+-- from power-up: the bytes are the old ones changed by exactly the entries that were carried out, in order
+pub accounted : (setup : Setup) (samples bytes : List ℕ) →
+    runOn (freshMachine setup bytes) samples .bytes ≡ appliedAll (setup .part) (entriesOf setup samples) bytes
+accounted setup samples bytes = accounts (freshMachine setup bytes) noStart 0 samples
+
+-- the same of the entries that came to a list
 pub account : (setup : Setup) (samples bytes : List ℕ) (l m : Held Entry) (u : Unit {0}) → Listed setup samples l m (Ok u) →
     runOn (freshMachine setup bytes) samples .bytes ≡ appliedAll (setup .part) (newIn l m) bytes
 account setup samples bytes l m u r =
-    accounts (freshMachine setup bytes) noStart 0 samples
+    accounted setup samples bytes
     ∙ ap (λ (es : List Entry). appliedAll (setup .part) es bytes) (sym (new-is setup samples l m u r))
