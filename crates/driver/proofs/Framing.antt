@@ -51,13 +51,13 @@ module _ {V : Type 0} (next : V → Pins → Put → V) (x : Seen V) where
         ∙ ap (told next x) (sym (plain part width i h))
 
     module _ (address n : ℕ) {y : Seen V} (e : y ≡ started-by (Read address 0)) where
-      pub read-heard : {ws : List ℕ} {bits : ℕ} → bits ≡ bitsOf width → ws ≡ wordsHeard bits n (y .pins) →
+      pub read-heard : {ws : List ℕ} → ws ≡ wordsHeard (bitsOf width) n (y .pins) →
           ws ≡ wordsHeard (bitsOf width) n (run (x .pins) (readOpening part width address []))
       unfolding countIn codeIn
-      read-heard b f = f ∙ rw b (ap (wordsHeard (bitsOf width) n) (ap (λ (v : Seen V). v .pins) e ∙ told-pins next x _))
+      read-heard f = f ∙ ap (wordsHeard (bitsOf width) n) (ap (λ (v : Seen V). v .pins) e ∙ told-pins next x _)
 
-      pub read-sent : {z w : Seen V} {bits : ℕ} → bits ≡ bitsOf width → z ≡ told next y (clocks (n * bits) 0 []) → w ≡ told next z ending → w ≡ told next x (frameOf part width (Read address n))
+      pub read-sent : {z w : Seen V} → z ≡ told next y (clocks (n * bitsOf width) 0 []) → w ≡ told next z ending → w ≡ told next x (frameOf part width (Read address n))
       unfolding frameOf countIn codeIn
-      read-sent b f g =
-          g ∙ ap (λ (v : Seen V). told next v ending) (f ∙ rw b) ∙ sym (told-clocks next y (n * bitsOf width) 0 ending)
+      read-sent f g =
+          g ∙ ap (λ (v : Seen V). told next v ending) f ∙ sym (told-clocks next y (n * bitsOf width) 0 ending)
           ∙ ap (λ (v : Seen V). told next v (clocks (n * bitsOf width) 0 ending)) e ∙ sym (told-opening next x _ _ (clocks (n * bitsOf width) 0 ending))

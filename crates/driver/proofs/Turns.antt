@@ -1,20 +1,19 @@
 -- Bits, tries and words, one turn of a loop on, and at its end.
 use Prim.Native.Nat.{ℕ, zero, suc, _+_, _*_, _-_, _^_, _<_, _≤_}
 use mathlib.Core.Path.{_≡_, refl, sym, ap, _∙_}
-use mathlib.Core.Bool.{Bool, true, false}
+use mathlib.Core.Bool.{Bool, true, false, not}
 use mathlib.Core.List.{List, [], _++_, append-assoc, append-nil}
-use lib.Dec.{eqb}
 use lib.ListN.{length, take, set}
 use native.Mathlib.Omega.{arith}
 use native.Mathlib.Nat.{pow-suc, zero-div, suc-add, zero-add, zero-mul}
 use native.Mathlib.Numerals.{add-one}
 use Rattle.std.proofs.shelf.Lists.{take-more-set, take-all}
 use Rattle.std.proofs.shelf.Ways.{tells}
-use Rattle.chips.specs.Pins.{Pins, Put, put, putOn, doOf}
+use Rattle.chips.specs.Pins.{Pins, Put, put, doOf}
 use Rattle.chips.specs.Seen.{Seen, stepped}
 use Rattle.wire.specs.Frames.{selected, bitAt, clocks}
 use Rattle.wire.specs.Hearing.{levelOf, heard, afterBits, wordsHeard}
-use Rattle.wire.specs.Polling.{tries, readyIn}
+use Rattle.wire.specs.Polling.{showsBusy, tries, readyIn}
 use Rattle.wire.specs.Runs.{run}
 use Rattle.wire.proofs.Hears.{heard-is-run}
 use Rattle.driver.specs.Sent.{told}
@@ -41,6 +40,14 @@ unfolding clocks
 zeros-add zero n after = rw zero-add
 zeros-add (suc m) n after = rw (suc-add, zero-bit (m + n), zero-bit m, zeros-add m n after)
 
+not-false : (b : Bool) → not b ≡ false → b ≡ true
+not-false true h = refl
+not-false false h = sym h
+
+not-true : (b : Bool) → not b ≡ true → b ≡ false
+not-true true h = sym h
+not-true false h = refl
+
 module _ {V : Type 0} (next : V → Pins → Put → V) where
   abbrev clocked : Bool → Seen V → Seen V
   clocked bit x = stepped next (stepped next x (put true false bit)) (put true true bit)
@@ -61,20 +68,14 @@ module _ {V : Type 0} (next : V → Pins → Put → V) where
       pub sent : told next x (tries (n - i) (x .pins)) ≡ told next y ss
       pub seen : readyIn (n - i) (x .pins) ≡ ready
 
-    pub try-more : {y : Seen V} {d : ℕ} → i < n → y ≡ stepped next x selected → d ≡ doOf (y .pins) → d ≡ 0 →
+    pub try-more : {y : Seen V} → i < n → y ≡ stepped next x selected → not (showsBusy (x .pins)) ≡ false →
         Tried y (tries (n - (i + 1)) (y .pins)) (readyIn (n - (i + 1)) (y .pins))
     unfolding told tries readyIn
-    try-more {y} {d} h e a z =
-        let f : eqb (doOf (y .pins)) 0 ≡ true = grind (arith, tells) in
-        let f′ : eqb (doOf (putOn (x .pins) selected)) 0 ≡ true = ap (λ (v : Seen V). eqb (doOf (v .pins)) 0) (sym e) ∙ f in
-        record { sent = rw (less h, f′, e); seen = rw (less h, f′, e) }
+    try-more h e b = let f : showsBusy (x .pins) ≡ true = not-false _ b in record { sent = rw (less h, f, e); seen = rw (less h, f, e) }
 
-    pub try-found : {y : Seen V} {d : ℕ} → i < n → y ≡ stepped next x selected → d ≡ doOf (y .pins) → (d ≡ 0 → ⊥) → Tried y [] true
+    pub try-found : {y : Seen V} → i < n → y ≡ stepped next x selected → not (showsBusy (x .pins)) ≡ true → Tried y [] true
     unfolding told tries readyIn
-    try-found {y} {d} h e a z =
-        let f : eqb (doOf (y .pins)) 0 ≡ false = grind (arith, tells) in
-        let f′ : eqb (doOf (putOn (x .pins) selected)) 0 ≡ false = ap (λ (v : Seen V). eqb (doOf (v .pins)) 0) (sym e) ∙ f in
-        record { sent = rw (less h, f′, e); seen = rw (less h, f′) }
+    try-found h e b = let f : showsBusy (x .pins) ≡ false = not-true _ b in record { sent = rw (less h, f, e); seen = rw (less h, f) }
 
     pub try-none : n ≤ i → Tried x [] false
     unfolding told tries readyIn

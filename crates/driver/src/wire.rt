@@ -1,18 +1,18 @@
 //! What goes over the wire: frames, polling and the words of a READ.
 ghost use mathlib.Core.Path.{_≡_};
-ghost use mathlib.Core.Bool.{true, false};
-ghost use mathlib.Core.List.{[], _∷_};
+ghost use mathlib.Core.Bool.{true, false, not};
+ghost use mathlib.Core.List.{[], _∷_, _++_};
 ghost use Prim.Native.Nat.{_*_, _≤_};
 ghost use lib.ListN.{length};
 ghost use Rattle.protocol.specs.Instructions.{isRead};
 ghost use Rattle.protocol.specs.Parts.{bitsOf};
 ghost use Rattle.protocol.specs.declared.instruction.Instruction.the-variants.{Read};
-ghost use Rattle.chips.specs.Pins.{doOf, put as levels};
+ghost use Rattle.chips.specs.Pins.{doOf, putOn, put as levels};
 ghost use Rattle.chips.specs.Seen.{seen, stepped};
 ghost use Rattle.wire.specs.Frames as frames;
 ghost use Rattle.wire.specs.Frames.{selected, clocks, rest, ending, opening, readOpening, frameOf};
 ghost use Rattle.wire.specs.Hearing.{levelOf, heard, wordsHeard};
-ghost use Rattle.wire.specs.Polling.{tries, polls, isReady};
+ghost use Rattle.wire.specs.Polling.{showsBusy, tries, readyIn, polls, isReady};
 ghost use Rattle.wire.specs.Runs.{run};
 ghost use Rattle.driver.specs.Fields.{kindIn, countIn, codeIn};
 ghost use Rattle.driver.specs.Sent.{told};
@@ -46,7 +46,7 @@ fn end<C: Chip>(chip: &mut C)
 // CS alone high; the answer is DO.
 fn select<C: Chip>(chip: &mut C) -> u8
     ensures sent { λ _. ⌜ seen view meaning (now (chip .exit)) ≡ stepped next (seen view meaning (now (chip .entry))) selected ⌝ }
-    ensures answer { λ r. ⌜ r ≡ doOf (meaning (now (chip .exit))) ⌝ }
+    ensures answer { λ r. ⌜ r ≡ doOf (putOn (meaning (now (chip .entry))) selected) ⌝ }
 {
     chip.put(true, false, false)
 }
@@ -97,17 +97,35 @@ pub(crate) fn send<C: Chip>(chip: &mut C, part: Part, width: Width, instruction:
     end_frame(chip);
 }
 
-// Looks until DO is not that of a busy chip or the tries are used up: is the chip ready?
-fn wait<C: Chip>(chip: &mut C) -> bool
-    ensures ready { λ r. ⌜ r ≡ isReady (meaning (now (chip .entry))) ⌝ }
-    ensures sent { λ _. ⌜ seen view meaning (now (chip .exit)) ≡ told next (seen view meaning (now (chip .entry))) (tries 4096 (meaning (now (chip .entry)))) ⌝ }
+// One look at a chip that may be programming: is it ready?
+fn look<C: Chip>(chip: &mut C) -> bool
+    ensures ready { λ r. ⌜ r ≡ not (showsBusy (meaning (now (chip .entry)))) ⌝ }
+    ensures sent { λ _. ⌜ seen view meaning (now (chip .exit)) ≡ stepped next (seen view meaning (now (chip .entry))) selected ⌝ }
 {
-    for tried in 0..TRIES {
-        if select(chip) != BUSY {
+    select(chip) != BUSY
+}
+
+// Looks until the chip is ready, at most so many times.
+fn wait<C: Chip>(chip: &mut C, most: u16) -> bool
+    ensures ready { λ r. ⌜ r ≡ readyIn most (meaning (now (chip .entry))) ⌝ }
+    ensures sent { λ _. ⌜ seen view meaning (now (chip .exit)) ≡ told next (seen view meaning (now (chip .entry))) (tries most (meaning (now (chip .entry)))) ⌝ }
+{
+    for tried in 0..most {
+        if look(chip) {
             return true;
         }
     }
     false
+}
+
+fn wait_and_end<C: Chip>(chip: &mut C, most: u16) -> bool
+    ensures ready { λ r. ⌜ r ≡ readyIn most (meaning (now (chip .entry))) ⌝ }
+    ensures sent { λ _. ⌜ seen view meaning (now (chip .exit)) ≡ told next (seen view meaning (now (chip .entry))) (tries most (meaning (now (chip .entry))) ++ rest) ⌝ }
+    ensures blank { λ _. ⌜ meaning (now (chip .exit)) .blank ≡ meaning (now (chip .entry)) .blank ⌝ }
+{
+    let ready = wait(chip, most);
+    end(chip);
+    ready
 }
 
 // Polling: is the chip ready?
@@ -116,9 +134,7 @@ pub(crate) fn poll<C: Chip>(chip: &mut C) -> bool
     ensures sent { λ _. ⌜ seen view meaning (now (chip .exit)) ≡ told next (seen view meaning (now (chip .entry))) (polls (meaning (now (chip .entry)))) ⌝ }
     ensures blank { λ _. ⌜ meaning (now (chip .exit)) .blank ≡ meaning (now (chip .entry)) .blank ⌝ }
 {
-    let ready = wait(chip);
-    end(chip);
-    ready
+    wait_and_end(chip, TRIES)
 }
 
 // The bit that a level of DO is.
@@ -128,28 +144,34 @@ fn level(out: u8) -> u16
     if out == 1 { 1 } else { 0 }
 }
 
-// One word: zero bits, and the number whose bits come out meanwhile.
-fn hear_word<C: Chip>(chip: &mut C, bits: u8) -> u16
-    requires { ⌜ bits ≤ 16 ⌝ }
-    ensures word { λ r. ⌜ r ≡ heard bits 0 (meaning (now (chip .entry))) ⌝ }
-    ensures sent { λ _. ⌜ seen view meaning (now (chip .exit)) ≡ told next (seen view meaning (now (chip .entry))) (clocks bits 0 []) ⌝ }
+// Zero bits, and the number whose bits come out meanwhile.
+fn hear_bits<C: Chip>(chip: &mut C, count: u8) -> u16
+    requires { ⌜ count ≤ 16 ⌝ }
+    ensures word { λ r. ⌜ r ≡ heard count 0 (meaning (now (chip .entry))) ⌝ }
+    ensures sent { λ _. ⌜ seen view meaning (now (chip .exit)) ≡ told next (seen view meaning (now (chip .entry))) (clocks count 0 []) ⌝ }
 {
     let mut word: u16 = 0;
-    for i in 0..bits {
+    for i in 0..count {
         let out = clock_bit(chip, false);
         word = 2 * word + level(out);
     }
     word
 }
 
+fn hear_word<C: Chip>(chip: &mut C, width: Width) -> u16
+    ensures word { λ r. ⌜ r ≡ heard (bitsOf width) 0 (meaning (now (chip .entry))) ⌝ }
+    ensures sent { λ _. ⌜ seen view meaning (now (chip .exit)) ≡ told next (seen view meaning (now (chip .entry))) (clocks (bitsOf width) 0 []) ⌝ }
+{
+    hear_bits(chip, width.bits())
+}
+
 // As many words as there is room for.
-fn hear_words<C: Chip>(chip: &mut C, bits: u8, words: &mut [u16])
-    requires { ⌜ bits ≤ 16 ⌝ }
-    ensures heard { λ _. ⌜ now (words .exit) ≡ wordsHeard bits (length (now (words .entry))) (meaning (now (chip .entry))) ⌝ }
-    ensures sent { λ _. ⌜ seen view meaning (now (chip .exit)) ≡ told next (seen view meaning (now (chip .entry))) (clocks (length (now (words .entry)) * bits) 0 []) ⌝ }
+fn hear_words<C: Chip>(chip: &mut C, width: Width, words: &mut [u16])
+    ensures heard { λ _. ⌜ now (words .exit) ≡ wordsHeard (bitsOf width) (length (now (words .entry))) (meaning (now (chip .entry))) ⌝ }
+    ensures sent { λ _. ⌜ seen view meaning (now (chip .exit)) ≡ told next (seen view meaning (now (chip .entry))) (clocks (length (now (words .entry)) * bitsOf width) 0 []) ⌝ }
 {
     for word in words.iter_mut() {
-        *word = hear_word(chip, bits);
+        *word = hear_word(chip, width);
     }
 }
 
@@ -165,6 +187,6 @@ pub(crate) fn fetch<C: Chip>(
     ensures sent { λ _. ⌜ seen view meaning (now (chip .exit)) ≡ told next (seen view meaning (now (chip .entry))) (frameOf part width (Read address (length (now (words .entry))))) ⌝ }
 {
     start_frame(chip, part, width, Instruction::Read { address, words: 0 });
-    hear_words(chip, width.bits(), words);
+    hear_words(chip, width, words);
     end_frame(chip);
 }

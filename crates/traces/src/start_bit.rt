@@ -1,5 +1,6 @@
 //! The start bit that came last, and the entry that a decision then makes.
 ghost use mathlib.Core.Path.{_≡_};
+ghost use Rattle.std.specs.declared.option.Option.the-variants.{Some};
 ghost use Rattle.traces.specs.Entries.{addressOf, dataOf, noStart, startAfter, entryOf};
 use crate::entry::Entry;
 use chips::state::Decision;
@@ -42,6 +43,36 @@ impl StartBit {
         }
     }
 
+    // The entry of a READ that has its address.
+    fn read_entry(self, place: usize, width: Width, cell: u16) -> Entry
+        ensures { λ r. ⌜ Some r ≡ entryOf self place (Decision.Address width cell) ⌝ }
+    {
+        Entry {
+            kind: Some(Kind::Read),
+            address: Some(cell),
+            data: None,
+            width,
+            first: self.place,
+            last: place,
+            verdict: Verdict::CarriedOut,
+        }
+    }
+
+    // The entry of a wrong count, which has the width of its start bit.
+    fn wrong_count_entry(self, place: usize) -> Entry
+        ensures { λ r. ⌜ Some r ≡ entryOf self place Decision.WrongCount ⌝ }
+    {
+        Entry {
+            kind: None,
+            address: None,
+            data: None,
+            width: self.width,
+            first: self.place,
+            last: place,
+            verdict: Verdict::WrongCount,
+        }
+    }
+
     // The entry that the decision of the sample at `place` makes, if any.
     pub(crate) fn enter(&mut self, place: usize, decision: Decision) -> Option<Entry>
         ensures next { λ _. ⌜ now (self .exit) ≡ startAfter (now (self .entry)) place decision ⌝ }
@@ -54,17 +85,7 @@ impl StartBit {
                 *self = StartBit { width, place };
                 None
             }
-            Decision::Address { width, cell } => {
-                Some(Entry {
-                    kind: Some(Kind::Read),
-                    address: Some(cell),
-                    data: None,
-                    width,
-                    first: start.place,
-                    last: place,
-                    verdict: Verdict::CarriedOut,
-                })
-            }
+            Decision::Address { width, cell } => Some(start.read_entry(place, width, cell)),
             Decision::Instruction {
                 kind,
                 width,
@@ -82,17 +103,7 @@ impl StartBit {
                     verdict,
                 })
             }
-            Decision::WrongCount => {
-                Some(Entry {
-                    kind: None,
-                    address: None,
-                    data: None,
-                    width: start.width,
-                    first: start.place,
-                    last: place,
-                    verdict: Verdict::WrongCount,
-                })
-            }
+            Decision::WrongCount => Some(start.wrong_count_entry(place)),
         }
     }
 }

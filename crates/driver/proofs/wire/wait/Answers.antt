@@ -5,15 +5,15 @@ use Rattle.driver.proofs.wire.wait.Needs as need
 
 pub loop-tried-again : need.loop-tried-again
 loop-tried-again g c =
-    let t = try-more (g .C·Chip .next) 4096 _ _ (c .loop-tried-test .taken) (c .select .ensures .sent) (c .select .ensures .answer) (c .if-select-ne-BUSY .left) in
+    let t = try-more (g .C·Chip .next) (c .args .most) _ _ (c .loop-tried-test .taken) (c .look .ensures .sent) (sym (c .look .ensures .ready) ∙ c .if-look .left) in
     (c .loop-tried .inv .0 ∙ t .sent, c .loop-tried .inv .1 ∙ t .seen)
 
-pub returns-then-select-ne-BUSY : need.returns-then-select-ne-BUSY
-returns-then-select-ne-BUSY g c =
-    let t = try-found (g .C·Chip .next) 4096 _ _ (c .loop-tried-test .taken) (c .select .ensures .sent) (c .select .ensures .answer) (c .if-select-ne-BUSY .taken) in
+pub returns-then-look : need.returns-then-look
+returns-then-look g c =
+    let t = try-found (g .C·Chip .next) (c .args .most) _ _ (c .loop-tried-test .taken) (c .look .ensures .sent) (sym (c .look .ensures .ready) ∙ c .if-look .taken) in
     record { ready = sym (c .loop-tried .inv .1 ∙ t .seen); sent = sym (c .loop-tried .inv .0 ∙ t .sent ∙ told-none (g .C·Chip .next) _) }
 
 pub returns : need.returns
 returns g c =
-    let t = try-none (g .C·Chip .next) 4096 _ _ (c .loop-tried-test .left) in
+    let t = try-none (g .C·Chip .next) (c .args .most) _ _ (c .loop-tried-test .left) in
     record { ready = sym (c .loop-tried .inv .1 ∙ t .seen); sent = sym (c .loop-tried .inv .0 ∙ t .sent ∙ told-none (g .C·Chip .next) _) }

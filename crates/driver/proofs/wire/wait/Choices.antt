@@ -9,5 +9,5 @@ abbrev pub Inv-loop-tried : given.InvT-loop-tried
 Inv-loop-tried g l =
     let m = g .C·Chip .meaning in
     let x = seen (g .C·Chip .view) m in
-    (told (g .C·Chip .next) (x (l .entry .chip)) (tries 4096 (m (l .entry .chip))) ≡ told (g .C·Chip .next) (x (l .chip)) (tries (4096 - l .tried) (m (l .chip))))
-    × (readyIn 4096 (m (l .entry .chip)) ≡ readyIn (4096 - l .tried) (m (l .chip)))
+    (told (g .C·Chip .next) (x (l .entry .chip)) (tries (l .most) (m (l .entry .chip))) ≡ told (g .C·Chip .next) (x (l .chip)) (tries (l .most - l .tried) (m (l .chip))))
+    × (readyIn (l .most) (m (l .entry .chip)) ≡ readyIn (l .most - l .tried) (m (l .chip)))

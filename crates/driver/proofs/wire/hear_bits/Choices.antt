@@ -5,12 +5,12 @@ use Rattle.chips.specs.Seen.{seen}
 use Rattle.wire.specs.Frames.{clocks}
 use Rattle.wire.specs.Hearing.{heard}
 use Rattle.driver.specs.Sent.{told}
-use Rattle.driver.proofs.wire.hear_word.Given as given
+use Rattle.driver.proofs.wire.hear_bits.Given as given
 
 abbrev pub Inv-loop-i : given.InvT-loop-i
 Inv-loop-i g l =
     let m = g .C·Chip .meaning in
     let x = seen (g .C·Chip .view) m in
     (l .word < 2 ^ l .i)
-    × (heard (l .bits) 0 (m (l .entry .chip)) ≡ heard (l .bits - l .i) (l .word) (m (l .chip)))
-    × (told (g .C·Chip .next) (x (l .entry .chip)) (clocks (l .bits) 0 []) ≡ told (g .C·Chip .next) (x (l .chip)) (clocks (l .bits - l .i) 0 []))
+    × (heard (l .count) 0 (m (l .entry .chip)) ≡ heard (l .count - l .i) (l .word) (m (l .chip)))
+    × (told (g .C·Chip .next) (x (l .entry .chip)) (clocks (l .count) 0 []) ≡ told (g .C·Chip .next) (x (l .chip)) (clocks (l .count - l .i) 0 []))
