@@ -1,4 +1,6 @@
 //! The 93C pin machine: what a chip does at each sample of its pins, and what every chip promises.
+#![tactic(auto)]
+
 mod bits;
 pub mod chip;
 pub mod control;

@@ -1,4 +1,6 @@
 //! The driver, over any chip: it sees only what put and facts promise.
+#![tactic(auto)]
+
 mod code;
 pub mod driver;
 mod wire;

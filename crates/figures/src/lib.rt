@@ -1,4 +1,6 @@
 //! Worked figures: what the definitions say of single cases.
+#![tactic(auto)]
+
 ghost use Rattle.std.specs.Prelude.{◌≡◌, true};
 ghost use Rattle.figures.specs.Figures.{Figures};
 

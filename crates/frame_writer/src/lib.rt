@@ -1,4 +1,6 @@
 //! The frame of an instruction, as sample bytes.
+#![tactic(auto)]
+
 ghost use Rattle.frame_writer.specs.Written.{written, Writes};
 
 use crate::frame::Frame;

@@ -1,3 +1,5 @@
 //! Calls as data, a call that performs a list of them, and the laws over whole histories.
+#![tactic(auto)]
+
 pub mod call;
 pub mod perform;

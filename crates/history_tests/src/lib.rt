@@ -1,4 +1,6 @@
 //! Histories of calls on the models, the refusals of every call, and frames as bytes.
+#![tactic(auto)]
+
 
 #[cfg(test)]
 mod tests {

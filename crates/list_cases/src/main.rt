@@ -1,4 +1,6 @@
 //! Lists each file that is named as an argument: many cases in one run.
+#![tactic(auto)]
+
 use listing::file::listing;
 use std::{env, fs};
 

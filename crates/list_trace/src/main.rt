@@ -1,4 +1,6 @@
 //! Lists the trace file on standard input.
+#![tactic(auto)]
+
 use listing::file::listing;
 use std::io::Read;
 

@@ -1,4 +1,6 @@
 //! What every layer speaks of: parts, widths, settings, samples, instructions, refusals, and a list in a caller's slice.
+#![tactic(auto)]
+
 pub mod instruction;
 pub mod list;
 pub mod parts;

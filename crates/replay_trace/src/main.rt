@@ -1,5 +1,7 @@
 //! Replays trace files, those named as arguments or else the one on standard input, on chips whose bytes are all ones:
 //! prints the listing, the levels of DO and the bytes that have changed.
+#![tactic(auto)]
+
 use chips::state::Verdict;
 use listing::file::ENTRIES;
 use listing::lines::text_of;

@@ -1,4 +1,6 @@
 //! The trace file: the settings of a chip, and the samples put into it.
+#![tactic(auto)]
+
 ghost use Rattle.std.specs.Prelude.{◌≡◌, ◌≤◌, length, Ok};
 ghost use Rattle.protocol.specs.Refusals.{and_then};
 ghost use Rattle.trace_file.specs.Form.{contents_of, trace_of, TookTrace};

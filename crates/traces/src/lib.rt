@@ -1,4 +1,6 @@
 //! The reader: which instructions a trace of a chip's pins sends, and whether the chip takes them.
+#![tactic(auto)]
+
 pub mod entry;
 pub mod reader;
 pub mod replay;

@@ -1,5 +1,7 @@
 //! One task from beginning to end: the calls with their answers on a chip of the fall edition, whether the clock edition
 //! answers the same, and the listing of what went over the wire.
+#![tactic(auto)]
+
 use crate::recorder::perform_recorded;
 use crate::show::print_calls;
 use crate::task::TASK;
