@@ -7,6 +7,6 @@ returns g c =
     let next = g.C.Chip.next in
     let n = length c.args.words.now in
     record {
-      heard = read_heard next _ c.args.part c.args.width c.args.address n c.start-frame.ensures c.hear-words.ensures.heard;
-      sent = read_sent next _ c.args.part c.args.width c.args.address n c.start-frame.ensures c.hear-words.ensures.sent c.end-frame.ensures;
+      heard = read_heard next _ c.args.part c.args.width c.args.address n c.start_frame.ensures c.hear_words.ensures.heard;
+      sent = read_sent next _ c.args.part c.args.width c.args.address n c.start_frame.ensures c.hear_words.ensures.sent c.end_frame.ensures;
     }

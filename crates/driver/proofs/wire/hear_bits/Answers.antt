@@ -6,8 +6,8 @@ pub loop-i-preserved : goal.loop-i-preserved
 loop-i-preserved g c =
     let next = g.C.Chip.next in
     let i = c.loop-i.invariant in
-    let h = hear_more next c.args.count _ c.loop-i.word _ c.loop-i-test.true c.clock-bit-out.ensures.sent c.clock-bit-out.ensures.answer c.level.ensures in
-    (hear_fits c.loop-i.word _ c.clock-bit-out.result i.0 c.level.ensures, i.1 ∙ h.word, i.2 ∙ h.sent)
+    let h = hear_more next c.args.count _ c.loop-i.word _ c.loop-i-test.true c.clock_bit-out.ensures.sent c.clock_bit-out.ensures.answer c.level.ensures in
+    (hear_fits c.loop-i.word _ c.clock_bit-out.result i.0 c.level.ensures, i.1 ∙ h.word, i.2 ∙ h.sent)
 
 pub returns : goal.returns
 returns g c =

@@ -8,7 +8,7 @@ pub loop-word-preserved : goal.loop-word-preserved
 loop-word-preserved g c =
     let i = c.loop-word.invariant in
     let n = length c.args.words.now in
-    let l = list_more g.C.Chip.next (bits_of c.args.width) n _ _ c.loop-word.words (omega arith) (omega arith) c.hear-word.ensures.word c.hear-word.ensures.sent in
+    let l = list_more g.C.Chip.next (bits_of c.args.width) n _ _ c.loop-word.words (omega arith) (omega arith) c.hear_word.ensures.word c.hear_word.ensures.sent in
     (i.0 ∙ l.words, i.1 ∙ l.sent)
 
 pub returns : goal.returns

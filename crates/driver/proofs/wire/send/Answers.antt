@@ -3,4 +3,4 @@ use Rattle.driver.proofs.wire.send.Goals as goal
 
 pub returns : goal.returns
 returns g c =
-    sent-plain g.C.Chip.next _ c.args.part c.args.width c.args.instruction c.requires c.start-frame.ensures c.end-frame.ensures
+    sent-plain g.C.Chip.next _ c.args.part c.args.width c.args.instruction c.requires c.start_frame.ensures c.end_frame.ensures

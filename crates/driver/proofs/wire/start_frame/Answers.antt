@@ -3,5 +3,5 @@ use Rattle.driver.proofs.wire.start_frame.Goals as goal
 
 pub returns : goal.returns
 returns g c =
-    started g.C.Chip.next _ _ _ c.code-of-count.ensures.count c.code-of-count.ensures.code c.select.ensures.sent c.clock-bit.ensures.sent
-    c.clock-bits.ensures
+    started g.C.Chip.next _ _ _ c.code_of-count.ensures.count c.code_of-count.ensures.code c.select.ensures.sent c.clock_bit.ensures.sent
+    c.clock_bits.ensures

@@ -13,7 +13,7 @@ at_end es i s h = sym (append-nil s) ∙ ap (λ (r : List ℕ). s ++ r) (sym (at
 
 pub loop-entry-preserved : goal.loop-entry-preserved
 loop-entry-preserved c =
-    one_more c.args.entries.now c.loop-entry.entry-index _ _ _ c.loop-entry-test.true c.in-ok-add-line.ensures ∙ c.loop-entry.invariant
+    one_more c.args.entries.now c.loop-entry.entry-index _ _ _ c.loop-entry-test.true c.in_ok-add_line.ensures ∙ c.loop-entry.invariant
 
 pub returns : goal.returns
 returns c = at_end c.args.entries.now c.loop-entry.entry-index _ c.loop-entry-test.false ∙ c.loop-entry.invariant

@@ -11,5 +11,5 @@ whole s h t u v es answer p q w y = y ∙ rw (w, q, p, append_assoc, append_asso
 
 pub returns : goal.returns
 returns c =
-    whole _ _ _ _ _ _ _ c.in-ok-push-str.ensures.bytes c.in-ok-add-lines.ensures c.in-ok-last.ensures
-    (let b = c.in-ok-push-str-2.ensures in let v = c.as-str.ensures.value in search rules)
+    whole _ _ _ _ _ _ _ c.in_ok-push_str.ensures.bytes c.in_ok-add_lines.ensures c.in_ok-last.ensures
+    (let b = c.in_ok-push_str-2.ensures in let v = c.as_str.ensures.value in search rules)

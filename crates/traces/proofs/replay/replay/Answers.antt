@@ -10,21 +10,21 @@ pub returns : goal.returns
 returns c =
     let settings = c.args.settings in
     let straps : Straps = record { org = true; pe = true } in
-    let setup = c.in-ok-check-replay.field-0 in
+    let setup = c.in_ok-check_replay.field-0 in
     let memory = c.args.memory.now in
     let samples = c.args.samples.now in
     let levels = c.args.levels.now in
     let l = c.args.entries.now in
-    let m = c.read-trace.new.entries in
-    let e = c.in-ok-check-replay.ensures in
+    let m = c.read_trace.new.entries in
+    let e = c.in_ok-check_replay.ensures in
     let p = pins_of c.new-model.result in
-    let q = pins_of c.run-trace.new.self in
+    let q = pins_of c.run_trace.new.self in
     let made = c.new-model.ensures.is in
-    let answer = c.run-trace.ensures.answer in
-    let d = done settings setup memory samples levels e straps p q c.run-trace.result made answer in
-    let b = bytes_are settings setup memory samples levels e straps p q c.run-trace.result made answer c.run-trace.ensures.chip in
-    let o = levels_are settings setup memory samples levels e straps p q c.run-trace.result made answer _ c.run-trace.ensures.buffer in
-    let read : Listed setup samples l m (Ok tt) = rw (reads settings setup memory samples levels e) at c.in-ok-read-trace.ensures in
+    let answer = c.run_trace.ensures.answer in
+    let d = done settings setup memory samples levels e straps p q c.run_trace.result made answer in
+    let b = bytes_are settings setup memory samples levels e straps p q c.run_trace.result made answer c.run_trace.ensures.chip in
+    let o = levels_are settings setup memory samples levels e straps p q c.run_trace.result made answer _ c.run_trace.ensures.buffer in
+    let read : Listed setup samples l m (Ok tt) = rw (reads settings setup memory samples levels e) at c.in_ok-read_trace.ensures in
     let a = account setup samples memory l m tt read in
     record {
       listed = rw (← e, d) read;

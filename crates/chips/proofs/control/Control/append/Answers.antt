@@ -3,16 +3,16 @@ use Rattle.chips.specs.Control.{appended}
 use Rattle.chips.proofs.Midways.{midway}
 use Rattle.chips.proofs.control.Control.append.Goals as goal
 
-pub returns-then-is-short : goal.returns-then-is-short
+pub returns-then-is_short : goal.returns-then-is_short
 unfolding appended
-returns-then-is-short c = search rules
+returns-then-is_short c = search rules
 
-pub returns-else-is-short : goal.returns-else-is-short
+pub returns-else-is_short : goal.returns-else-is_short
 unfolding appended
-returns-else-is-short c = search rules
+returns-else-is_short c = search rules
 
-pub returns-then-is-midway : goal.returns-then-is-midway
-returns-then-is-midway g c =
-    let m = midway c.args.self.now.setup c.args.s c.args.width c.args.count c.args.bits c.args.self.now.state (c.is-midway.ensures.is c.if-is-midway.true) in
+pub returns-then-is_midway : goal.returns-then-is_midway
+returns-then-is_midway g c =
+    let m = midway c.args.self.now.setup c.args.s c.args.width c.args.count c.args.bits c.args.self.now.state (c.is_midway.ensures.is c.if-is_midway.true) in
     let a = c.append.ensures.is in
     rw (m, ← a) (search rules)

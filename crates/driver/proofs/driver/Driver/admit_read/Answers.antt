@@ -7,7 +7,7 @@ returns g c =
     let p = g.C.Chip.meaning d.chip.now in
     record {
       is =
-          count_cut p d.greeted c.args.address c.args.count c.try-from.result c.try-from.ensures c.unwrap-or-words.ensures
+          count_cut p d.greeted c.args.address c.args.count c.try_from.result c.try_from.ensures c.unwrap_or-words.ensures
           c.admit.ensures.is;
       live = c.admit.ensures.live;
     }

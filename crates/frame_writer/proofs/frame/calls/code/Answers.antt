@@ -14,7 +14,7 @@ pub returns-in-Write : goal.returns-in-Write
 returns-in-Write c =
     let d : has_data c.args.kind ≡ true = elim c.in-Write.is [ inl e ↦ rw e | inr e ↦ rw e ] in
     let b : c.bits.result ≤ 16 = rw c.bits.ensures (most_bits c.args.width) in
-    let j = shifted_joined c.opcode.result c.field-size.result c.address-bits.result c.bits.result c.args.value c.opcode.ensures.most
-    c.field-size.ensures.most c.address-bits.ensures.most b in
+    let j = shifted_joined c.opcode.result c.field-size.result c.address_bits.result c.bits.result c.args.value c.opcode.ensures.most
+    c.field-size.ensures.most c.address_bits.ensures.most b in
     j ∙ coded c.args.part c.args.width c.args.kind c.args.address c.args.value c.opcode.result c.field-size.result
-    c.address-bits.result c.bits.result d c.opcode.ensures.is c.field-size.ensures.is c.address-bits.ensures.is c.bits.ensures
+    c.address_bits.result c.bits.result d c.opcode.ensures.is c.field-size.ensures.is c.address_bits.ensures.is c.bits.ensures

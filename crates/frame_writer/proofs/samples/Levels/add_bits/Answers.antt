@@ -7,9 +7,9 @@ pub loop-i-preserved : goal.loop-i-preserved
 loop-i-preserved c = (
   λ m a.
       c.loop-i.invariant.0 m
-      (bit_before c.args.self c.loop-i.samples c.add-bit.new.samples m c.args.count c.loop-i.i c.args.code c.nth-bit.result
-      c.loop-i-test.true c.nth-bit.ensures c.add-bit.ensures a),
-  omega (arith, c.loop-i.invariant.1, c.add-bit.ensures.counts, c.add-bit.ensures.same_room),
+      (bit_before c.args.self c.loop-i.samples c.add_bit.new.samples m c.args.count c.loop-i.i c.args.code c.nth_bit.result
+      c.loop-i-test.true c.nth_bit.ensures c.add_bit.ensures a),
+  omega (arith, c.loop-i.invariant.1, c.add_bit.ensures.counts, c.add_bit.ensures.same_room),
 )
 
 pub returns : goal.returns
