@@ -13,7 +13,7 @@ use Rattle.chips.specs.Machine.{cell_value, data_bit}
 use Rattle.chips.specs.Pins.{Pins, put_on, do_of}
 use Rattle.wire.specs.Frames.{bit_at, ending, clocks}
 use Rattle.wire.specs.Runs.{run}
-use Rattle.wire.specs.Hearing.{bit_at_zero, level_of, heard, after_bits, words_heard, cells_from}
+use Rattle.wire.specs.Hearing.{zero_bit, level_of, heard, after_bits, words_heard, cells_from}
 use Rattle.wire.specs.Places.{width_on, placed, resting}
 use Rattle.wire.specs.Laws.{HeardIsRun, AfterWords, WordsHeardMore, ReadAnswersCells, ReadRests}
 use Rattle.wire.proofs.Cells.{some_bits, cell_below}
@@ -25,13 +25,13 @@ bit_at_zero n = rw zero-div
 pub heard_is_run : HeardIsRun
 unfolding run clocks after_bits
 heard_is_run p zero after = refl
-heard_is_run p (suc n) after = rw (bit_at_zero n) (heard_is_run (bit_at_zero p) n after)
+heard_is_run p (suc n) after = rw (bit_at_zero n) (heard_is_run (zero_bit p) n after)
 
 -- bits in a row
 pub after_add : (p : Pins) (m n : ℕ) → after_bits (m + n) p ≡ after_bits n (after_bits m p)
 unfolding after_bits
 after_add p zero n = ap (λ k. after_bits k p) (zero-add n)
-after_add p (suc m) n = ap (λ k. after_bits k p) (suc-add m n) ∙ after_add (bit_at_zero p) m n
+after_add p (suc m) n = ap (λ k. after_bits k p) (suc-add m n) ∙ after_add (zero_bit p) m n
 
 pub after_words : AfterWords
 after_words p bits n = let e : (n + 1) * bits ≡ n * bits + bits = omega arith in ap (λ k. after_bits k p) e ∙ after_add p (n * bits) bits
@@ -44,14 +44,14 @@ words_heard-more p bits (suc n) =
     rw (suc-add, e, after_add p bits (n * bits)) (ap (λ ws. heard bits 0 p ∷ ws) (words_heard-more (after_bits bits p) bits n))
 
 -- one bit more
-pub after_more : (p : Pins) (n : ℕ) → after_bits (n + 1) p ≡ bit_at_zero (after_bits n p)
+pub after_more : (p : Pins) (n : ℕ) → after_bits (n + 1) p ≡ zero_bit (after_bits n p)
 unfolding after_bits
 after_more p n = after_add p n 1
 
 pub heard-more : (p : Pins) (n bits : ℕ) → heard (n + 1) bits p ≡ 2 * heard n bits p + level_of (do_of (after_bits (n + 1) p))
 unfolding heard after_bits
 heard-more p zero bits = refl
-heard-more p (suc n) bits = rw suc-add (heard-more (bit_at_zero p) n (2 * bits + level_of (do_of (bit_at_zero p))))
+heard-more p (suc n) bits = rw suc-add (heard-more (zero_bit p) n (2 * bits + level_of (do_of (zero_bit p))))
 
 -- n bits are a number below 2 ^ n
 pub heard_below : (p : Pins) (n : ℕ) → heard n 0 p < 2 ^ n
@@ -75,7 +75,7 @@ join x j =
 abbrev hears : ℕ → ℕ → Pins → ℕ × Pins
 hears n bits p = (heard n bits p, after_bits n p)
 
-hears-more : (n bits d : ℕ) (p q : Pins) → bit_at_zero p ≡ q → do_of q ≡ d → hears (suc n) bits p ≡ hears n (2 * bits + level_of d) q
+hears-more : (n bits d : ℕ) (p q : Pins) → zero_bit p ≡ q → do_of q ≡ d → hears (suc n) bits p ≡ hears n (2 * bits + level_of d) q
 unfolding heard after_bits
 hears-more n bits d p q e o = ap (λ x. hears n (2 * bits + level_of (do_of x)) x) e ∙ ap (λ x. hears n (2 * bits + level_of x) q) o
 
@@ -101,7 +101,7 @@ module _ (p : Pins) (live : p.blank ≡ false) where
 
     -- one zero bit
     bit_on : (cell next out : ℕ) →
-        bit_at_zero (at (Reading width cell next) out) ≡ at (Reading width (cell_next cell next) (bit_next next)) (data_bit width (word cell) next)
+        zero_bit (at (Reading width cell next) out) ≡ at (Reading width (cell_next cell next) (bit_next next)) (data_bit width (word cell) next)
     unfolding put_on turn
     bit_on cell next out = simp (live, one_of)
 

@@ -8,8 +8,8 @@ use Rattle.chips.specs.Pins.{Pins, put, put_on, do_of}
 use Rattle.wire.specs.Frames.{selected}
 
 -- a zero bit
-abbrev pub bit_at_zero : Pins → Pins
-bit_at_zero p = put_on (put_on p selected) (put true true false)
+abbrev pub zero_bit : Pins → Pins
+zero_bit p = put_on (put_on p selected) (put true true false)
 
 abbrev pub level_of : ℕ → ℕ
 level_of out = cond (out == 1) 1 0
@@ -17,11 +17,11 @@ level_of out = cond (out == 1) 1 0
 -- n zero bits: DO is taken at each sample with SK high and joined to the bits before
 unfoldable pub heard : ℕ → ℕ → Pins → ℕ
 heard zero bits p = bits
-heard (suc n) bits p = heard n (2 * bits + level_of (do_of (bit_at_zero p))) (bit_at_zero p)
+heard (suc n) bits p = heard n (2 * bits + level_of (do_of (zero_bit p))) (zero_bit p)
 
 unfoldable pub after_bits : ℕ → Pins → Pins
 after_bits zero p = p
-after_bits (suc n) p = after_bits n (bit_at_zero p)
+after_bits (suc n) p = after_bits n (zero_bit p)
 
 -- n words of so many bits
 unfoldable pub words_heard : ℕ → ℕ → Pins → List ℕ

@@ -12,7 +12,7 @@ unfolding appended
 returns-else-is_short c = search rules
 
 pub returns-then-is_midway : goal.returns-then-is_midway
-returns-then-is_midway g c =
+returns-then-is_midway c =
     let m = midway c.args.self.now.setup c.args.s c.args.width c.args.count c.args.bits c.args.self.now.state (c.is_midway.ensures.is c.if-is_midway.true) in
     let a = c.append.ensures.is in
     rw (m, ← a) (search rules)

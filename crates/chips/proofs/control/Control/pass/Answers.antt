@@ -15,14 +15,14 @@ returns c =
           let low : c.args.s.cs ≡ false = not-true c.args.s.cs w.if-not-s.true in
           let e : c.if-not-s.self.state ≡ rested st = ap (λ (x : Control). x.state) w.self-is ∙ w.rest.ensures.state in
           record {
-            turn = rw (c.saturating_sub-self.ensures, e) (stays_low c.args.self.now.setup st c.args.s low c.requires);
-            setup = ap (λ (x : Control). x.setup) w.self-is ∙ w.rest.ensures.setup;
+            turn = rw (c.age.ensures.state, e) (stays_low c.args.self.now.setup st c.args.s low c.requires);
+            setup = c.age.ensures.setup ∙ ap (λ (x : Control). x.setup) w.self-is ∙ w.rest.ensures.setup;
           }
       | else-not-s w ↦
           let high : c.args.s.cs ≡ true = not-false c.args.s.cs w.if-not-s.false in
           let e : c.if-not-s.self.state ≡ st = ap (λ (x : Control). x.state) w.self-is in
           record {
-            turn = rw (c.saturating_sub-self.ensures, e) (stays-high c.args.self.now.setup st c.args.s high c.requires);
-            setup = ap (λ (x : Control). x.setup) w.self-is;
+            turn = rw (c.age.ensures.state, e) (stays-high c.args.self.now.setup st c.args.s high c.requires);
+            setup = c.age.ensures.setup ∙ ap (λ (x : Control). x.setup) w.self-is;
           }
     ]
