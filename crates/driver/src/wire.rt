@@ -26,31 +26,31 @@ const BUSY: u8 = 0;
 
 // One idle sample.
 pub(crate) fn idle<C: Chip>(chip: &mut C)
-    ensures sent { seen view meaning chip.new ≡ told next (seen view meaning chip.old) (frames.idle ∷ []) }
-    ensures blank { (meaning chip.new).blank ≡ (meaning chip.old).blank }
+    ensures sent { seen C.Chip.view C.Chip.meaning chip.new ≡ told C.Chip.next (seen C.Chip.view C.Chip.meaning chip.old) (frames.idle ∷ []) }
+    ensures blank { (C.Chip.meaning chip.new).blank ≡ (C.Chip.meaning chip.old).blank }
 {
     let _ = chip.put(false, false, false);
 }
 
 // What ends a frame and a polling.
 fn end<C: Chip>(chip: &mut C)
-    ensures { seen view meaning chip.new ≡ told next (seen view meaning chip.old) rest }
+    ensures { seen C.Chip.view C.Chip.meaning chip.new ≡ told C.Chip.next (seen C.Chip.view C.Chip.meaning chip.old) rest }
 {
     idle(chip);
 }
 
 // CS alone high; the answer is DO.
 fn select<C: Chip>(chip: &mut C) -> u8
-    ensures sent { seen view meaning chip.new ≡ stepped next (seen view meaning chip.old) selected }
-    ensures answer { result ≡ do_of (put_on (meaning chip.old) selected) }
+    ensures sent { seen C.Chip.view C.Chip.meaning chip.new ≡ stepped C.Chip.next (seen C.Chip.view C.Chip.meaning chip.old) selected }
+    ensures answer { result ≡ do_of (put_on (C.Chip.meaning chip.old) selected) }
 {
     chip.put(true, false, false)
 }
 
 // One bit, with SK low and then high; the answer is DO with SK high.
 fn clock_bit<C: Chip>(chip: &mut C, bit: bool) -> u8
-    ensures sent { seen view meaning chip.new ≡ stepped next (stepped next (seen view meaning chip.old) (levels true false bit)) (levels true true bit) }
-    ensures answer { result ≡ do_of (meaning chip.new) }
+    ensures sent { seen C.Chip.view C.Chip.meaning chip.new ≡ stepped C.Chip.next (stepped C.Chip.next (seen C.Chip.view C.Chip.meaning chip.old) (levels true false bit)) (levels true true bit) }
+    ensures answer { result ≡ do_of (C.Chip.meaning chip.new) }
 {
     let _ = chip.put(true, false, bit);
     chip.put(true, true, bit)
@@ -59,7 +59,7 @@ fn clock_bit<C: Chip>(chip: &mut C, bit: bool) -> u8
 // The lowest bits of a number, the highest first.
 fn clock_bits<C: Chip>(chip: &mut C, count: u8, code: u64)
     requires { count ≤ 64 }
-    ensures { seen view meaning chip.new ≡ told next (seen view meaning chip.old) (clocks count code []) }
+    ensures { seen C.Chip.view C.Chip.meaning chip.new ≡ told C.Chip.next (seen C.Chip.view C.Chip.meaning chip.old) (clocks count code []) }
 {
     for place in (0..count).rev() {
         let _ = clock_bit(chip, (code >> place) % 2 == 1);
@@ -68,7 +68,7 @@ fn clock_bits<C: Chip>(chip: &mut C, count: u8, code: u64)
 
 // CS alone, the start bit, and the bits of an instruction.
 fn start_frame<C: Chip>(chip: &mut C, part: Part, width: Width, instruction: Instruction)
-    ensures { seen view meaning chip.new ≡ told next (seen view meaning chip.old) (opening (count_in part width instruction) (code_in part width instruction) []) }
+    ensures { seen C.Chip.view C.Chip.meaning chip.new ≡ told C.Chip.next (seen C.Chip.view C.Chip.meaning chip.old) (opening (count_in part width instruction) (code_in part width instruction) []) }
 {
     let (count, code) = code_of(part, width, instruction);
     let _ = select(chip);
@@ -78,7 +78,7 @@ fn start_frame<C: Chip>(chip: &mut C, part: Part, width: Width, instruction: Ins
 
 // CS alone, and the end.
 fn end_frame<C: Chip>(chip: &mut C)
-    ensures { seen view meaning chip.new ≡ told next (seen view meaning chip.old) ending }
+    ensures { seen C.Chip.view C.Chip.meaning chip.new ≡ told C.Chip.next (seen C.Chip.view C.Chip.meaning chip.old) ending }
 {
     let _ = select(chip);
     end(chip);
@@ -87,7 +87,7 @@ fn end_frame<C: Chip>(chip: &mut C)
 // The frame of an instruction that is no READ.
 pub(crate) fn send<C: Chip>(chip: &mut C, part: Part, width: Width, instruction: Instruction)
     requires { is_read (kind_in instruction) ≡ false }
-    ensures { seen view meaning chip.new ≡ told next (seen view meaning chip.old) (frame_of part width instruction) }
+    ensures { seen C.Chip.view C.Chip.meaning chip.new ≡ told C.Chip.next (seen C.Chip.view C.Chip.meaning chip.old) (frame_of part width instruction) }
 {
     start_frame(chip, part, width, instruction);
     end_frame(chip);
@@ -95,16 +95,16 @@ pub(crate) fn send<C: Chip>(chip: &mut C, part: Part, width: Width, instruction:
 
 // One look at a chip that may be programming: is it ready?
 fn look<C: Chip>(chip: &mut C) -> bool
-    ensures ready { result ≡ not (shows_busy (meaning chip.old)) }
-    ensures sent { seen view meaning chip.new ≡ stepped next (seen view meaning chip.old) selected }
+    ensures ready { result ≡ not (shows_busy (C.Chip.meaning chip.old)) }
+    ensures sent { seen C.Chip.view C.Chip.meaning chip.new ≡ stepped C.Chip.next (seen C.Chip.view C.Chip.meaning chip.old) selected }
 {
     select(chip) != BUSY
 }
 
 // Looks until the chip is ready, at most so many times.
 fn wait<C: Chip>(chip: &mut C, most: u16) -> bool
-    ensures ready { result ≡ ready_in most (meaning chip.old) }
-    ensures sent { seen view meaning chip.new ≡ told next (seen view meaning chip.old) (tries most (meaning chip.old)) }
+    ensures ready { result ≡ ready_in most (C.Chip.meaning chip.old) }
+    ensures sent { seen C.Chip.view C.Chip.meaning chip.new ≡ told C.Chip.next (seen C.Chip.view C.Chip.meaning chip.old) (tries most (C.Chip.meaning chip.old)) }
 {
     for tried in 0..most {
         if look(chip) {
@@ -115,9 +115,9 @@ fn wait<C: Chip>(chip: &mut C, most: u16) -> bool
 }
 
 fn wait_and_end<C: Chip>(chip: &mut C, most: u16) -> bool
-    ensures ready { result ≡ ready_in most (meaning chip.old) }
-    ensures sent { seen view meaning chip.new ≡ told next (seen view meaning chip.old) (tries most (meaning chip.old) ++ rest) }
-    ensures blank { (meaning chip.new).blank ≡ (meaning chip.old).blank }
+    ensures ready { result ≡ ready_in most (C.Chip.meaning chip.old) }
+    ensures sent { seen C.Chip.view C.Chip.meaning chip.new ≡ told C.Chip.next (seen C.Chip.view C.Chip.meaning chip.old) (tries most (C.Chip.meaning chip.old) ++ rest) }
+    ensures blank { (C.Chip.meaning chip.new).blank ≡ (C.Chip.meaning chip.old).blank }
 {
     let ready = wait(chip, most);
     end(chip);
@@ -126,9 +126,9 @@ fn wait_and_end<C: Chip>(chip: &mut C, most: u16) -> bool
 
 // Polling: is the chip ready?
 pub(crate) fn poll<C: Chip>(chip: &mut C) -> bool
-    ensures ready { result ≡ is_ready (meaning chip.old) }
-    ensures sent { seen view meaning chip.new ≡ told next (seen view meaning chip.old) (polls (meaning chip.old)) }
-    ensures blank { (meaning chip.new).blank ≡ (meaning chip.old).blank }
+    ensures ready { result ≡ is_ready (C.Chip.meaning chip.old) }
+    ensures sent { seen C.Chip.view C.Chip.meaning chip.new ≡ told C.Chip.next (seen C.Chip.view C.Chip.meaning chip.old) (polls (C.Chip.meaning chip.old)) }
+    ensures blank { (C.Chip.meaning chip.new).blank ≡ (C.Chip.meaning chip.old).blank }
 {
     wait_and_end(chip, TRIES)
 }
@@ -143,8 +143,8 @@ fn level(out: u8) -> u16
 // Zero bits, and the number whose bits come out meanwhile.
 fn hear_bits<C: Chip>(chip: &mut C, count: u8) -> u16
     requires { count ≤ 16 }
-    ensures word { result ≡ heard count 0 (meaning chip.old) }
-    ensures sent { seen view meaning chip.new ≡ told next (seen view meaning chip.old) (clocks count 0 []) }
+    ensures word { result ≡ heard count 0 (C.Chip.meaning chip.old) }
+    ensures sent { seen C.Chip.view C.Chip.meaning chip.new ≡ told C.Chip.next (seen C.Chip.view C.Chip.meaning chip.old) (clocks count 0 []) }
 {
     let mut word: u16 = 0;
     for i in 0..count {
@@ -155,16 +155,16 @@ fn hear_bits<C: Chip>(chip: &mut C, count: u8) -> u16
 }
 
 fn hear_word<C: Chip>(chip: &mut C, width: Width) -> u16
-    ensures word { result ≡ heard (bits_of width) 0 (meaning chip.old) }
-    ensures sent { seen view meaning chip.new ≡ told next (seen view meaning chip.old) (clocks (bits_of width) 0 []) }
+    ensures word { result ≡ heard (bits_of width) 0 (C.Chip.meaning chip.old) }
+    ensures sent { seen C.Chip.view C.Chip.meaning chip.new ≡ told C.Chip.next (seen C.Chip.view C.Chip.meaning chip.old) (clocks (bits_of width) 0 []) }
 {
     hear_bits(chip, width.bits())
 }
 
 // As many words as there is room for.
 fn hear_words<C: Chip>(chip: &mut C, width: Width, words: &mut [u16])
-    ensures heard { words.new ≡ words_heard (bits_of width) (length words.old) (meaning chip.old) }
-    ensures sent { seen view meaning chip.new ≡ told next (seen view meaning chip.old) (clocks (length words.old * bits_of width) 0 []) }
+    ensures heard { words.new ≡ words_heard (bits_of width) (length words.old) (C.Chip.meaning chip.old) }
+    ensures sent { seen C.Chip.view C.Chip.meaning chip.new ≡ told C.Chip.next (seen C.Chip.view C.Chip.meaning chip.old) (clocks (length words.old * bits_of width) 0 []) }
 {
     for word in words.iter_mut() {
         *word = hear_word(chip, width);
@@ -179,8 +179,8 @@ pub(crate) fn fetch<C: Chip>(
     address: u16,
     words: &mut [u16],
 )
-    ensures heard { words.new ≡ words_heard (bits_of width) (length words.old) (run (meaning chip.old) (read_opening part width address [])) }
-    ensures sent { seen view meaning chip.new ≡ told next (seen view meaning chip.old) (frame_of part width (Read address (length words.old))) }
+    ensures heard { words.new ≡ words_heard (bits_of width) (length words.old) (run (C.Chip.meaning chip.old) (read_opening part width address [])) }
+    ensures sent { seen C.Chip.view C.Chip.meaning chip.new ≡ told C.Chip.next (seen C.Chip.view C.Chip.meaning chip.old) (frame_of part width (Read address (length words.old))) }
 {
     start_frame(chip, part, width, Instruction::Read { address, words: 0 });
     hear_words(chip, width, words);

@@ -142,9 +142,9 @@ pub fn perform<C: Chip>(
     answers: &mut List<Result<(), Refusal>>,
     words: &mut List<u16>,
 ) -> Result<(), Refusal>
-    ensures performs { Performs next (has_room calls.now answers.old words.old) calls.now (seen view meaning chip.old) (seen view meaning chip.new) answers.old answers.new words.old words.new result }
-    ensures truthful { (d : Event) → Truthful (ones_of (width_on (meaning chip.old))) (events_of next calls.now (seen view meaning chip.old)) d }
-    ensures alike { (other : Pins) (d : Event) → AnswersAlike calls.now (events_of next calls.now (seen view meaning chip.old)) (meaning chip.old) other d }
+    ensures performs { Performs C.Chip.next (has_room calls.now answers.old words.old) calls.now (seen C.Chip.view C.Chip.meaning chip.old) (seen C.Chip.view C.Chip.meaning chip.new) answers.old answers.new words.old words.new result }
+    ensures truthful { (d : Event) → Truthful (ones_of (width_on (C.Chip.meaning chip.old))) (events_of C.Chip.next calls.now (seen C.Chip.view C.Chip.meaning chip.old)) d }
+    ensures alike { (other : Pins) (d : Event) → AnswersAlike calls.now (events_of C.Chip.next calls.now (seen C.Chip.view C.Chip.meaning chip.old)) (C.Chip.meaning chip.old) other d }
     ensures account { ListingAccounts }
 {
     // facts promises that the chip fits, on which the laws rest
