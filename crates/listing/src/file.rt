@@ -47,7 +47,7 @@ fn list_entries(
 
 // The text of a listing, and how the reading ended.
 #[derive(Drop)]
-pub struct Listing {
+pub struct FileListing {
     pub text: String,
     pub answer: Result<(), Refusal>,
 }
@@ -58,7 +58,7 @@ fn list_in(
     file: &[u8],
     samples: &mut [u8],
     entries: &mut [Entry],
-) -> Result<Listing, AllocError>
+) -> Result<FileListing, AllocError>
     requires samples { length samples.old ≡ 65536 }
     requires entries { length entries.old ≡ 1024 }
     ensures { IfOk result (λ l. Lists file.now (string_bytes l.text) l.answer) }
@@ -67,11 +67,11 @@ fn list_in(
     let mut entries = List::new(entries);
     let answer = list_entries(file, &mut samples, &mut entries);
     let text = text_of(heap, entries.items(), answer)?;
-    Ok(Listing { text, answer })
+    Ok(FileListing { text, answer })
 }
 
 // The listing of a trace file.
-pub fn list_file(heap: Global, file: &[u8]) -> Result<Listing, AllocError>
+pub fn list_file(heap: Global, file: &[u8]) -> Result<FileListing, AllocError>
     ensures { IfOk result (λ l. Lists file.now (string_bytes l.text) l.answer) }
 {
     let mut samples = vec![in heap; 0u8; LIMIT]?;
