@@ -47,3 +47,8 @@ module _ (l m : Held ℕ) (old : List ℕ) (none : l.count ≡ 0) (is : l.slice.
   written_not (Err d) e a =
       let h : d ≡ e = (let k = a.1 in cc) in
       (rw h, ap (λ (k : Held ℕ). k.slice.now) a.0 ∙ is)
+
+  -- what is refused leaves the list as it was
+  pub list_kept : (frame : Result (List ℕ) Refusal) (e : Refusal) → Writes frame l m (Err e) → m ≡ l
+  list_kept (Ok bytes) e a = a.2
+  list_kept (Err d) e a = a.0

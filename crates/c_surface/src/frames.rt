@@ -33,8 +33,10 @@ fn write_into(part: u8, org: bool, pe: bool, instruction: Instruction, samples: 
     ensures buffer { samples.new ≡ frame_buffer (written part org pe instruction) samples.old }
 {
     let mut list = List::new(samples);
-    match write_frame(part, org, pe, instruction, &mut list) {
-        Ok(()) => Answer::new(Ok(()), list.len()),
+    let result = write_frame(part, org, pe, instruction, &mut list);
+    let length = list.len();
+    match result {
+        Ok(()) => Answer::new(Ok(()), length),
         Err(refusal) => Answer::new(Err(refusal), 0),
     }
 }

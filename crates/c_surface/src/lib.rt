@@ -4,5 +4,5 @@
 pub mod answer;
 pub mod frames;
 pub mod listings;
+pub mod runs;
 pub mod settings;
-pub mod traces;

@@ -1,7 +1,6 @@
 //! Histories of calls on the models, the refusals of every call, and frames as bytes.
 #![tactic(auto)]
 
-
 #[cfg(test)]
 mod tests {
     use chips::chip::Chip;
@@ -502,12 +501,12 @@ mod tests {
             write_frame(46, true, true, Instruction::Wen, &mut samples),
             DONE
         );
-        assert_eq!(rt; samples.items(), &WEN);
+        assert_eq!(rt; samples.items(), WEN.as_slice());
         assert_eq!(rt;
             write_frame(46, true, true, Instruction::Wen, &mut samples),
             refused(Cause::NoRoom)
         );
-        assert_eq!(rt; samples.items(), &WEN);
+        assert_eq!(rt; samples.items(), WEN.as_slice());
     }
 
     // At width 8 on an 86, with the list too short for any frame.

@@ -1,7 +1,6 @@
 //! Refusals of the models, the trace call, the reader and replay, with what they leave of the caller's buffers.
 #![tactic(auto)]
 
-
 #[cfg(test)]
 mod tests {
     use chips::chip::Chip;

@@ -1,3 +1,2 @@
 //! What goes over the wire: frames and polling as lists of samples, and the laws of what they do to a chip.
 #![tactic(auto)]
-
