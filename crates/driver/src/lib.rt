@@ -3,4 +3,4 @@
 
 mod code;
 pub mod driver;
-mod wire;
+mod signals;

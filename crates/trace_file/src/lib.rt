@@ -3,7 +3,7 @@
 
 ghost use Rattle.std.specs.Prelude.{◌≡◌, ◌≤◌, length, Ok};
 ghost use Rattle.protocol.specs.Refusals.{and_then};
-ghost use Rattle.trace_file.specs.Form.{contents_of, trace_of, TookTrace};
+ghost use Rattle.trace_file.specs.Form.{contents_of, too_long, trace_of, TookTrace};
 
 use crate::form::{bad_form, take_contents};
 use protocol::list::List;
@@ -30,8 +30,14 @@ fn check_length(file: &[u8]) -> Result<(), Refusal>
     ensures trace { trace_of file.now ≡ and_then result (contents_of file.now) }
     ensures short { result ≡ Ok tt → length file.now ≤ 65536 }
 {
-    if file.len() > LIMIT {
+    if too_long(file) {
         return Err(bad_form(LIMIT));
     }
     Ok(())
+}
+
+fn too_long(file: &[u8]) -> bool
+    ensures { result ≡ too_long file.now }
+{
+    file.len() > LIMIT
 }

@@ -1,9 +1,9 @@
 //! One sample after the other.
 ghost use Rattle.std.specs.Prelude.{◌≡◌, ◌^◌, ◌<◌, ◌≤◌, true, false, not, ◌&&◌, ◌==◌};
 ghost use Rattle.protocol.specs.Instructions.{length_of, kind_at};
-ghost use Rattle.chips.specs.Control.{aged, is_clock_edition, verdict_of, instruction_at, begun, obeyed, ending as ending_of, ended, rested, deselected, is_clock, is_quiet, taken, appended, clocked, turned, turn_to, turn};
+ghost use Rattle.chips.specs.Control.{aged, is_clock_edition, verdict_of, instruction_at, begun, obeyed, ending, ended, rested, deselected, is_clock, is_quiet, taken, appended, clocked, turned, turn_to, turn};
 ghost use Rattle.chips.specs.declared.state.Decision.TheVariants.{Nothing};
-ghost use Rattle.chips.specs.Fits.{count_in, DecisionFits};
+ghost use Rattle.chips.specs.Fits.{DecisionFits};
 
 use crate::bits::{
     append, cell_at, has_read_address, is_midway, is_short, is_whole, kind, read_on, value_at,
@@ -13,75 +13,50 @@ use crate::state::{Decision, Phase, Verdict};
 use protocol::instruction::Kind;
 use protocol::parts::Width;
 use protocol::sample::Sample;
-use protocol::settings::{Edition, Setup};
-
-fn is_clock_edition(edition: Edition) -> bool
-    ensures { result ≡ is_clock_edition edition }
-{
-    match edition {
-        Edition::Fall => false,
-        Edition::Clock => true,
-    }
-}
-
-// Shut is judged before protected.
-fn verdict(edition: Edition, enabled: bool, pe: bool, kind: Kind) -> Verdict
-    ensures { result ≡ verdict_of edition enabled pe kind }
-{
-    if !kind.is_change() {
-        Verdict::CarriedOut
-    } else if !enabled {
-        Verdict::Shut
-    } else if is_clock_edition(edition) && !pe {
-        Verdict::Protected
-    } else {
-        Verdict::CarriedOut
-    }
-}
-
-// An instruction of its whole length.
-fn instruction(
-    setup: Setup,
-    enabled: bool,
-    pe: bool,
-    width: Width,
-    count: u8,
-    bits: u32,
-) -> Decision
-    requires { (count < 32) × (count ≡ length_of setup.part width (kind_at count bits)) }
-    ensures is { result ≡ instruction_at setup enabled pe width count bits }
-    ensures fits { DecisionFits setup.part result }
-{
-    let kind = kind(count, bits);
-    Decision::Instruction {
-        kind,
-        width,
-        cell: cell_at(setup.part, width, count, bits),
-        value: value_at(setup.part, width, kind, count, bits),
-        verdict: verdict(setup.edition, enabled, pe, kind),
-    }
-}
-
-// CS has fallen: what that decides.
-fn ending(setup: Setup, enabled: bool, pe: bool, phase: Phase) -> Decision
-    requires { count_in phase ≤ 29 }
-    ensures is { result ≡ ending_of setup enabled pe phase }
-    ensures fits { DecisionFits setup.part result }
-{
-    match phase {
-        Phase::Taking { width, count, bits } => {
-            if !is_clock_edition(setup.edition) && is_whole(setup.part, width, count, bits) {
-                instruction(setup, enabled, pe, width, count, bits)
-            } else {
-                Decision::WrongCount
-            }
-        }
-        Phase::Spoiled => Decision::WrongCount,
-        _ => Decision::Nothing,
-    }
-}
+use protocol::settings::Edition;
 
 impl Control {
+    fn is_clock_edition(&self) -> bool
+        ensures { result ≡ is_clock_edition self.now.setup.edition }
+    {
+        match self.setup.edition {
+            Edition::Fall => false,
+            Edition::Clock => true,
+        }
+    }
+
+    // Shut is judged before protected.
+    fn verdict(&self, pe: bool, kind: Kind) -> Verdict
+        ensures { result ≡ verdict_of self.now.setup.edition self.now.state.enabled pe kind }
+    {
+        if !kind.is_change() {
+            Verdict::CarriedOut
+        } else if !self.state.enabled {
+            Verdict::Shut
+        } else if self.is_clock_edition() && !pe {
+            Verdict::Protected
+        } else {
+            Verdict::CarriedOut
+        }
+    }
+
+    // An instruction of its whole length.
+    fn instruction(&self, pe: bool, width: Width, count: u8, bits: u32) -> Decision
+        requires { (count < 32) × (count ≡ length_of self.now.setup.part width (kind_at count bits)) }
+        ensures is { result ≡ instruction_at self.now.setup self.now.state.enabled pe width count bits }
+        ensures fits { DecisionFits self.now.setup.part result }
+    {
+        let part = self.setup.part;
+        let kind = kind(count, bits);
+        Decision::Instruction {
+            kind,
+            width,
+            cell: cell_at(part, width, count, bits),
+            value: value_at(part, width, kind, count, bits),
+            verdict: self.verdict(pe, kind),
+        }
+    }
+
     // Begins the cycle of a change that is not turned down.
     fn begin(&mut self, cycle: u16, verdict: Verdict)
         ensures state { self.new.state ≡ begun self.old.setup.edition cycle verdict self.old.state }
@@ -89,7 +64,7 @@ impl Control {
     {
         if let Verdict::CarriedOut = verdict {
             self.state.left = cycle;
-            if is_clock_edition(self.setup.edition) {
+            if self.is_clock_edition() {
                 self.state.status = true;
             }
         }
@@ -113,6 +88,24 @@ impl Control {
         }
     }
 
+    // CS has fallen: what that decides.
+    fn ending(&self, pe: bool) -> Decision
+        ensures is { result ≡ ending self.now.setup self.now.state.enabled pe self.now.state.phase }
+        ensures fits { DecisionFits self.now.setup.part result }
+    {
+        match self.state.phase {
+            Phase::Taking { width, count, bits } => {
+                if !self.is_clock_edition() && is_whole(self.setup.part, width, count, bits) {
+                    self.instruction(pe, width, count, bits)
+                } else {
+                    Decision::WrongCount
+                }
+            }
+            Phase::Spoiled => Decision::WrongCount,
+            _ => Decision::Nothing,
+        }
+    }
+
     // The chip waits, with status off.
     fn rest(&mut self)
         ensures state { self.new.state ≡ rested self.old.state }
@@ -127,7 +120,7 @@ impl Control {
         requires { count < 32 }
         ensures { result ≡ (is_clock_edition self.now.setup.edition && count == length_of self.now.setup.part width (kind_at count bits)) }
     {
-        is_clock_edition(self.setup.edition) && is_whole(self.setup.part, width, count, bits)
+        self.is_clock_edition() && is_whole(self.setup.part, width, count, bits)
     }
 
     // An instruction has got one more bit.
@@ -147,10 +140,10 @@ impl Control {
             };
             Decision::Address { width, cell }
         } else if self.completes(width, count, bits) {
-            let decision = instruction(self.setup, self.state.enabled, pe, width, count, bits);
-            self.obey(decision);
+            let instruction = self.instruction(pe, width, count, bits);
+            self.obey(instruction);
             self.state.phase = Phase::Over;
-            decision
+            instruction
         } else {
             self.state.phase = Phase::Taking { width, count, bits };
             Decision::Nothing
@@ -195,7 +188,7 @@ impl Control {
         ensures setup { self.new.setup ≡ self.old.setup }
     {
         let decision = if self.state.cs {
-            ending(self.setup, self.state.enabled, s.pe, self.state.phase)
+            self.ending(s.pe)
         } else {
             Decision::Nothing
         };

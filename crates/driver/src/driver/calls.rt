@@ -10,7 +10,7 @@ ghost use Rattle.driver.specs.Outcome.{outcome};
 ghost use Rattle.driver.specs.Reads.{read_word, run_words, filled};
 
 use crate::driver::Driver;
-use crate::wire;
+use crate::signals;
 use chips::chip::Chip;
 use protocol::instruction::Instruction;
 use protocol::refusal::{Cause, Refusal};
@@ -22,7 +22,7 @@ impl<C: Chip> Driver<'_, C> {
         ensures lent { self.new.chip.ghost_name ≡ self.old.chip.ghost_name }
     {
         self.admit_greet()?;
-        wire::idle(self.chip);
+        signals::idle(self.chip);
         self.poll(Cause::Busy)?;
         self.send(Instruction::Wds);
         self.greeted = true;

@@ -9,7 +9,7 @@ ghost use Rattle.driver.specs.Outcome.{outcome};
 
 use crate::driver::Driver;
 use crate::driver::checks::refused;
-use crate::wire;
+use crate::signals;
 use chips::chip::Chip;
 use protocol::instruction::Instruction;
 use protocol::refusal::{Cause, Refusal};
@@ -21,7 +21,7 @@ impl<C: Chip> Driver<'_, C> {
         ensures lent { self.new.chip.ghost_name ≡ self.old.chip.ghost_name }
         ensures blank { (C.Chip.meaning self.new.chip.now).blank ≡ (C.Chip.meaning self.old.chip.now).blank }
     {
-        if wire::poll(self.chip) {
+        if signals::poll(self.chip) {
             Ok(())
         } else {
             Err(refused(cause))
@@ -48,7 +48,7 @@ impl<C: Chip> Driver<'_, C> {
     {
         // a blank takes none
         if let Ok((part, width, _)) = self.shape() {
-            wire::send(self.chip, part, width, instruction);
+            signals::send(self.chip, part, width, instruction);
         }
     }
 
@@ -60,7 +60,7 @@ impl<C: Chip> Driver<'_, C> {
         ensures lent { self.new.chip.ghost_name ≡ self.old.chip.ghost_name }
     {
         if let Ok((part, width, _)) = self.shape() {
-            wire::fetch(self.chip, part, width, address, words);
+            signals::fetch(self.chip, part, width, address, words);
         }
     }
 }

@@ -39,8 +39,8 @@ impl Model<'_> {
         }
     }
 
-    // DO after a decision of its control, and before it.
-    fn show(&self, control: &Control, out: u8, decision: Decision) -> u8
+    // DO after a decision of a control over these bytes, and before it.
+    fn shown(&self, control: &Control, out: u8, decision: Decision) -> u8
         requires live { self.now.blank ≡ false }
         requires fits { DecisionFits self.now.control.setup.part decision }
         ensures { result ≡ out_of decision control.now.state self.now.memory.now out }
@@ -52,6 +52,15 @@ impl Model<'_> {
         }
     }
 
+    // DO after a decision.
+    fn show(&self, decision: Decision) -> u8
+        requires live { self.now.blank ≡ false }
+        requires fits { DecisionFits self.now.control.setup.part decision }
+        ensures { result ≡ out_of decision self.now.control.state self.now.memory.now self.now.out }
+    {
+        self.shown(&self.control, self.out, decision)
+    }
+
     // One sample of a control over the bytes, with DO before it; the answer is DO after it.
     pub(crate) fn advance(&mut self, control: &mut Control, out: u8, s: Sample) -> u8
         requires live { self.old.blank ≡ false }
@@ -60,12 +69,12 @@ impl Model<'_> {
         ensures rest { OnlyBytes self.old self.new }
         ensures setup { control.new.setup ≡ control.old.setup }
     {
-        let decision = control.step(s);
-        if let Decision::Nothing = decision {
+        let decided = control.step(s);
+        if let Decision::Nothing = decided {
             return control.hold(out);
         }
-        let shown = self.show(control, out, decision);
-        self.change(decision);
+        let shown = self.shown(control, out, decided);
+        self.change(decided);
         shown
     }
 
@@ -76,10 +85,9 @@ impl Model<'_> {
         ensures answer { result ≡ (step (machine_of self.old) s).out }
         ensures same { SameChip self.old self.new }
     {
-        let mut control = self.control;
-        let out = self.advance(&mut control, self.out, s);
-        self.control = control;
-        self.out = out;
-        out
+        let decision = self.control.step(s);
+        self.out = self.show(decision);
+        self.change(decision);
+        self.out
     }
 }

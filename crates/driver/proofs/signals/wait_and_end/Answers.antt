@@ -4,7 +4,7 @@ use Rattle.wire.specs.Frames.{rest}
 use Rattle.wire.specs.Polling.{tries}
 use Rattle.driver.specs.Sent.{told}
 use Rattle.driver.proofs.Tells.{told-append, told_blank}
-use Rattle.driver.proofs.wire.wait_and_end.Goals as goal
+use Rattle.driver.proofs.signals.wait_and_end.Goals as goal
 
 pub returns : goal.returns
 returns g c =

@@ -1,6 +1,6 @@
 use Rattle.std.proofs.Common.{sym, ◌∙◌}
 use Rattle.driver.proofs.Turns.{send_more, send_all}
-use Rattle.driver.proofs.wire.clock_bits.Goals as goal
+use Rattle.driver.proofs.signals.clock_bits.Goals as goal
 
 pub loop-place-preserved : goal.loop-place-preserved
 loop-place-preserved g c =

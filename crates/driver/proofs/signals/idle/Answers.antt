@@ -3,7 +3,7 @@ use Rattle.chips.specs.Seen.{seen}
 use Rattle.wire.specs.Frames.{idle}
 use Rattle.driver.specs.Sent.{told}
 use Rattle.driver.proofs.Tells.{told-one, told_blank}
-use Rattle.driver.proofs.wire.idle.Goals as goal
+use Rattle.driver.proofs.signals.idle.Goals as goal
 
 pub returns : goal.returns
 returns g c =

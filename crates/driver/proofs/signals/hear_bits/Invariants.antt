@@ -3,7 +3,7 @@ use Rattle.chips.specs.Seen.{seen}
 use Rattle.wire.specs.Frames.{clocks}
 use Rattle.wire.specs.Hearing.{heard}
 use Rattle.driver.specs.Sent.{told}
-use Rattle.driver.proofs.wire.hear_bits.Given as goal
+use Rattle.driver.proofs.signals.hear_bits.Given as goal
 
 abbrev pub invariant-loop-i : goal.invariant-loop-i
 invariant-loop-i g l =

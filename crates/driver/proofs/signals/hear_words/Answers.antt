@@ -2,7 +2,7 @@ use Rattle.std.proofs.Common.{length, sym, ◌∙◌, arith}
 use Rattle.protocol.specs.Parts.{bits_of}
 use Rattle.driver.proofs.Tells.{told_none}
 use Rattle.driver.proofs.Turns.{list_more, list_all}
-use Rattle.driver.proofs.wire.hear_words.Goals as goal
+use Rattle.driver.proofs.signals.hear_words.Goals as goal
 
 pub loop-word-preserved : goal.loop-word-preserved
 loop-word-preserved g c =

@@ -1,6 +1,6 @@
 use Rattle.std.proofs.Common.{sym, ◌∙◌}
 use Rattle.driver.proofs.Turns.{hear_more, hear_fits, hear_all, hear_none}
-use Rattle.driver.proofs.wire.hear_bits.Goals as goal
+use Rattle.driver.proofs.signals.hear_bits.Goals as goal
 
 pub loop-i-preserved : goal.loop-i-preserved
 loop-i-preserved g c =

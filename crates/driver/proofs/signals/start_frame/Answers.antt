@@ -1,5 +1,5 @@
 use Rattle.driver.proofs.Framing.{started}
-use Rattle.driver.proofs.wire.start_frame.Goals as goal
+use Rattle.driver.proofs.signals.start_frame.Goals as goal
 
 pub returns : goal.returns
 returns g c =

@@ -1,6 +1,6 @@
 use Rattle.std.proofs.Common.{length}
 use Rattle.driver.proofs.Framing.{read_heard, read_sent}
-use Rattle.driver.proofs.wire.fetch.Goals as goal
+use Rattle.driver.proofs.signals.fetch.Goals as goal
 
 pub returns : goal.returns
 returns g c =

@@ -1,7 +1,7 @@
 use Rattle.std.proofs.Common.{sym, ◌∙◌}
 use Rattle.driver.proofs.Tells.{told_none}
 use Rattle.driver.proofs.Turns.{try_more, try_found, try_none}
-use Rattle.driver.proofs.wire.wait.Goals as goal
+use Rattle.driver.proofs.signals.wait.Goals as goal
 
 pub loop-tried-preserved : goal.loop-tried-preserved
 loop-tried-preserved g c =

@@ -2,7 +2,7 @@ use Rattle.std.proofs.Common.{◌≡◌, ◌-◌}
 use Rattle.chips.specs.Seen.{seen}
 use Rattle.wire.specs.Polling.{tries, ready_in}
 use Rattle.driver.specs.Sent.{told}
-use Rattle.driver.proofs.wire.wait.Given as goal
+use Rattle.driver.proofs.signals.wait.Given as goal
 
 abbrev pub invariant-loop-tried : goal.invariant-loop-tried
 invariant-loop-tried g l =

@@ -4,7 +4,7 @@ use Rattle.chips.specs.Seen.{seen}
 use Rattle.wire.specs.Frames.{clocks}
 use Rattle.wire.specs.Hearing.{words_heard}
 use Rattle.driver.specs.Sent.{told}
-use Rattle.driver.proofs.wire.hear_words.Given as goal
+use Rattle.driver.proofs.signals.hear_words.Given as goal
 
 abbrev pub invariant-loop-word : goal.invariant-loop-word
 invariant-loop-word g l =

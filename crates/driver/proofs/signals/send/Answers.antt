@@ -1,5 +1,5 @@
 use Rattle.driver.proofs.Framing.{sent-plain}
-use Rattle.driver.proofs.wire.send.Goals as goal
+use Rattle.driver.proofs.signals.send.Goals as goal
 
 pub returns : goal.returns
 returns g c =
