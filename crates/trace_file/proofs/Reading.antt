@@ -90,6 +90,15 @@ module _ (rest next : Rest) (samples : List ℕ) (e : Ok (samples, next) ≡ rec
 pub samples_bad : (rest : Rest) (refused : Refusal) → Err refused ≡ record_of rest → samples_of rest ≡ Err refused
 samples_bad rest refused e = one_record rest ∙ ap (λ (r : Result (List ℕ × Rest) Refusal). bind r (joined_by samples_of)) (sym e)
 
+-- the trace of a file, by its length
+pub trace_too_long : (file : List ℕ) → too_long file ≡ true → trace_of file ≡ Err (bad_form 65536)
+unfolding trace_of
+trace_too_long file h = rw h
+
+pub trace_contents : (file : List ℕ) → too_long file ≡ false → trace_of file ≡ contents_of file
+unfolding trace_of
+trace_contents file h = rw h
+
 -- There are never more samples than bytes.
 joined-within :
     (b : Bool) (samples all : List ℕ) (r : Result (List ℕ) Refusal) (n : ℕ) → Ok all ≡ cond b (Ok samples) (bind r (λ more. Ok (samples ++ more))) →

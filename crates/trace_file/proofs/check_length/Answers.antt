@@ -1,11 +1,9 @@
-use Rattle.std.proofs.Common.{rules}
-use Rattle.trace_file.specs.Form.{trace_of}
+use Rattle.std.proofs.Common.{rules, sym}
+use Rattle.trace_file.proofs.Reading.{trace_too_long, trace_contents}
 use Rattle.trace_file.proofs.check_length.Goals as goal
 
-pub returns-then-too_long : goal.returns-then-too_long
-unfolding trace_of
-returns-then-too_long c = search rules
+pub returns-then-too_long-clause-trace : goal.returns-then-too_long-clause-trace
+returns-then-too_long-clause-trace c = rw (trace_too_long c.args.file.now (sym c.if-too_long.ensures)) (search rules)
 
-pub returns : goal.returns
-unfolding trace_of
-returns c = search rules
+pub returns-clause-trace : goal.returns-clause-trace
+returns-clause-trace c = trace_contents c.args.file.now (sym c.if-too_long.ensures)
