@@ -1,5 +1,5 @@
 -- The pin meaning of a chip: a machine whose ORG and PE are tied to a level, or a blank, which does nothing.
-use Rattle.std.specs.Prelude.{ℕ, Bool, true, false, cond}
+use Rattle.std.specs.Prelude.{ℕ, Bool, true, cond}
 use Rattle.protocol.specs.declared.parts.Part.{Part}
 use Rattle.protocol.specs.declared.parts.Part.TheVariants.{C46, C56, C66, C76, C86}
 use Rattle.protocol.specs.declared.sample.Sample.{Sample}

@@ -1,5 +1,4 @@
 -- What is seen of a chip: its own view, and what it means.
-use Rattle.std.specs.Prelude.{List, [], ◌∷◌}
 use Rattle.chips.specs.Pins.{Pins, Put, put_on}
 
 pub record Seen (V : Type 0) : Type 0 where

@@ -1,7 +1,7 @@
 -- The ten calls.
-use Rattle.std.specs.Prelude.{ℕ, Bool, true, false, cond, List, [], ◌∷◌, length, Ok, Err, Result}
+use Rattle.std.specs.Prelude.{ℕ, Bool, true, false, cond, List, [], ◌∷◌, Ok, Err, Result}
 use Rattle.protocol.specs.declared.instruction.Instruction.{Instruction}
-use Rattle.protocol.specs.declared.instruction.Instruction.TheVariants.{Read, Write, Erase, Wen, Wds, Eral, Wrall}
+use Rattle.protocol.specs.declared.instruction.Instruction.TheVariants.{Read, Wen, Wds}
 use Rattle.protocol.specs.declared.refusal.Cause.{Cause}
 use Rattle.protocol.specs.declared.refusal.Cause.TheVariants.{Busy, Unfinished}
 use Rattle.protocol.specs.declared.refusal.Refusal.{Refusal}

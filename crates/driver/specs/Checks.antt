@@ -1,5 +1,5 @@
 -- What a call is refused for before anything is sent, in the order of judging.
-use Rattle.std.specs.Prelude.{ℕ, Bool, true, false, cond, not, ◌||◌, Ok, Err, Result, ◌==◌, nat_le, nat_lt}
+use Rattle.std.specs.Prelude.{ℕ, Bool, cond, ◌||◌, Ok, Err, Result, ◌==◌, nat_le, nat_lt}
 use Rattle.protocol.specs.declared.instruction.Instruction.{Instruction}
 use Rattle.protocol.specs.declared.instruction.Instruction.TheVariants.{Read, Write, Erase, Wen, Wds, Eral, Wrall}
 use Rattle.protocol.specs.declared.refusal.Cause.TheVariants.{Address, Value, WordCount, BlankChip, NotGreeted, Shut, Protected}

@@ -9,7 +9,7 @@ use Rattle.chips.specs.Machine.{cell_value, set_cell}
 use Rattle.chips.specs.Pins.{Pins, Put, put_on}
 use Rattle.wire.specs.Frames.{selected, clocks, frame_of}
 use Rattle.wire.specs.Hearing.{words_heard, cells_from}
-use Rattle.wire.specs.Places.{width_on, left_on, Rest, Ready, Sendable}
+use Rattle.wire.specs.Places.{width_on, Ready, Sendable}
 use Rattle.wire.specs.Polling.{shows_busy, tries, ready_in}
 use Rattle.wire.specs.Runs.{run}
 use Rattle.wire.proofs.Carrying.{read_opens_cell}

@@ -1,5 +1,5 @@
 -- What the helpers of the writer add.
-use Rattle.std.specs.Prelude.{ℕ, ◌+◌, ◌*◌, ◌≤◌, Bool, List, length}
+use Rattle.std.specs.Prelude.{ℕ, ◌+◌, ◌≤◌, List}
 use Rattle.protocol.specs.declared.list.List.{List as Held}
 use Rattle.protocol.specs.Lists.{room, Added}
 use Rattle.chips.specs.Pins.{Put}

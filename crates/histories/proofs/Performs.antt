@@ -1,20 +1,19 @@
 -- Calls performed one after the other.
-use Rattle.std.proofs.Common.{◌≡◌, ℕ, ◌+◌, ◌-◌, ◌<◌, ◌≤◌, Bool, true, false, leb, List, [], ◌∷◌, ◌++◌, length, get_or, take, drop, Ok, Err, Result, sym, refl, ap, ◌∙◌, append_assoc, arith}
-use Rattle.std.proofs.lemmas.List.{append-nil, at_drop_more, at_drop_all, take_more, take_all, length-append}
+use Rattle.std.proofs.Common.{◌≡◌, ℕ, ◌+◌, ◌-◌, ◌<◌, ◌≤◌, true, false, leb, List, [], ◌∷◌, length, get_or, drop, Ok, Err, Result, sym, refl, ap, ◌∙◌, arith}
+use Rattle.std.proofs.lemmas.List.{at_drop_more, at_drop_all}
 use Rattle.std.proofs.lemmas.Bool.Decides.{nat_tests}
 use Rattle.protocol.specs.declared.list.List.{List as Held}
 use Rattle.protocol.specs.declared.refusal.Refusal.{Refusal}
 use Rattle.protocol.specs.Lists.{room, Added, Adds}
-use Rattle.protocol.proofs.Adding.{added_none, added_twice}
+use Rattle.protocol.proofs.Adding.{added_none}
 use Rattle.chips.specs.Pins.{Pins, Put}
 use Rattle.wire.specs.Hearing.{heard, words_heard}
 use Rattle.driver.specs.Calls.{fetched, words_on, as_word, as_done, filled_by}
 use Rattle.driver.specs.Outcome.{State, Outcome, outcome, then}
 use Rattle.driver.specs.Reads.{read_word, run_words, filled}
 use Rattle.histories.specs.declared.call.Call.{Call}
-use Rattle.histories.specs.declared.call.Call.TheVariants.{Greet, Settle, Open, Shut, Read, Run, Write, Erase, Fill, Clear}
-use Rattle.histories.specs.Events.{Answer, Event, event, performed, events_from, end_from}
-use Rattle.histories.specs.Performing.{wanted_by, words_wanted, answers_in, words_in, PerformedOne, Performed}
+use Rattle.histories.specs.declared.call.Call.TheVariants.{Read, Run}
+use Rattle.histories.specs.Performing.{wanted_by, words_wanted, PerformedOne}
 
 -- Room for words.
 pub fit_more : (calls : List Call) (i left : ℕ) (d : Call) → i < length calls → wanted_by (get_or calls i d) ≤ left →

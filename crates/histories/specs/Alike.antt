@@ -1,5 +1,5 @@
 -- What two histories have in common.
-use Rattle.std.specs.Prelude.{ℕ, Bool, true, false, cond, List, [], ◌∷◌, Some, None, Ok, Err, Option}
+use Rattle.std.specs.Prelude.{ℕ, Bool, true, false, List, [], ◌∷◌, Some, None, Ok, Err, Option}
 use Rattle.protocol.specs.declared.refusal.Cause.{Cause}
 use Rattle.protocol.specs.declared.refusal.Cause.TheVariants.{
   Address,
@@ -18,7 +18,7 @@ use Rattle.protocol.specs.declared.refusal.Cause.TheVariants.{
   Busy,
   Unfinished,
 }
-use Rattle.histories.specs.Events.{Answer, Event}
+use Rattle.histories.specs.Events.{Event}
 use Rattle.histories.specs.Book.{first_book}
 
 -- still programming, with or without a frame sent

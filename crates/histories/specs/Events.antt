@@ -1,5 +1,5 @@
 -- A history: the calls of a list, one after the other, each with what came of it.
-use Rattle.std.specs.Prelude.{ℕ, Bool, true, false, List, [], ◌∷◌, length, Ok, Err, Result}
+use Rattle.std.specs.Prelude.{ℕ, false, List, [], ◌∷◌, Result}
 use Rattle.protocol.specs.declared.instruction.Instruction.TheVariants as instruction
 use Rattle.protocol.specs.declared.refusal.Refusal.{Refusal}
 use Rattle.chips.specs.Pins.{Pins, Put}

@@ -1,5 +1,5 @@
 -- The laws over whole histories.
-use Rattle.std.specs.Prelude.{◌≡◌, ℕ, ◌+◌, ◌%◌, ◌<◌, ◌≤◌, Bool, true, false, List, [], ◌∷◌, length, get_or, take, Some, None, Option, slice_index, slice_index_or}
+use Rattle.std.specs.Prelude.{◌≡◌, ℕ, ◌+◌, ◌%◌, ◌<◌, ◌≤◌, false, List, length, get_or, take, Some, None, Option, slice_index, slice_index_or}
 use Rattle.protocol.specs.Parts.{ones_of}
 use Rattle.chips.specs.Fitting.{Fitting}
 use Rattle.chips.specs.Pins.{Pins, Put, facts_of}

@@ -1,16 +1,15 @@
 -- What taking and reading the trace of a file come to, from empty lists.
-use Rattle.std.proofs.Common.{◌≡◌, ℕ, ◌-◌, ◌≤◌, List, [], ◌++◌, length, take, Ok, Err, Result, sym, refl, ap, ◌∙◌, arith, le-leb}
+use Rattle.std.proofs.Common.{◌≡◌, ℕ, ◌-◌, ◌≤◌, List, [], ◌++◌, length, take, Ok, Err, Result, refl, ap, ◌∙◌, arith, le-leb}
 use Rattle.protocol.specs.declared.list.List.{List as Held}
 use Rattle.protocol.specs.declared.refusal.Refusal.{Refusal}
 use Rattle.protocol.specs.declared.settings.Settings.{Settings}
 use Rattle.protocol.specs.declared.settings.Setup.{Setup}
-use Rattle.protocol.specs.Lists.{items, room, Added}
+use Rattle.protocol.specs.Lists.{items, room}
 use Rattle.trace_file.specs.Form.{trace_of, in_places, Taken, TookTrace}
 use Rattle.trace_file.proofs.Reading.{trace_within}
 use Rattle.traces.specs.declared.entry.Entry.{Entry}
-use Rattle.traces.specs.Entries.{entries_of}
 use Rattle.traces.specs.Reading.{readable, ReadAfter, WasRead}
-use Rattle.listing.specs.Outcome.{Outcome, of_chip, of_trace, outcome_of}
+use Rattle.listing.specs.Outcome.{Outcome, of_chip, outcome_of}
 
 abbrev Trace : Type 0
 Trace = Result (Settings × List ℕ) Refusal

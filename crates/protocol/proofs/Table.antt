@@ -1,5 +1,5 @@
 -- From the test of the whole table to the rule at each part and width.
-use Rattle.std.proofs.Common.{◌≡◌, ℕ, zero, suc, ◌+◌, ◌*◌, ◌^◌, ◌<◌, ◌≤◌, Bool, true, false, cond, ◌&&◌, eqb, List, [], ◌∷◌, length, get_or, drop, Some, None, Option, sym, refl, ◌∙◌, not-suc-le-zero, arith, lit<, ne_eqb, eqb-true, leb-true}
+use Rattle.std.proofs.Common.{◌≡◌, ℕ, zero, suc, ◌+◌, ◌*◌, ◌^◌, ◌<◌, ◌≤◌, Bool, true, cond, eqb, List, [], ◌∷◌, length, get_or, drop, Some, None, Option, refl, ◌∙◌, not-suc-le-zero, arith, lit<, ne_eqb, eqb-true, leb-true}
 use Rattle.std.proofs.lemmas.Bool.{and_parts}
 use Rattle.std.proofs.lemmas.List.{at_drop_more}
 use Rattle.protocol.specs.declared.parts.Part.{Part}
@@ -8,7 +8,7 @@ use Rattle.protocol.specs.declared.parts.Width.{Width}
 use Rattle.protocol.specs.declared.parts.Width.TheVariants.{Eight, Sixteen}
 use Rattle.protocol.specs.declared.parts.Layout.{Layout}
 use Rattle.protocol.specs.declared.parts.Row.{Row}
-use Rattle.protocol.specs.Parts.{row_of, rows, find_part, bytes_in, or_else, layout_of, bytes_of, cells_of, field_of, agrees_at, agrees_at_eight, agrees, every, TableAgrees}
+use Rattle.protocol.specs.Parts.{row_of, rows, find_part, bytes_in, or_else, bytes_of, cells_of, field_of, agrees_at, agrees_at_eight, agrees, every, TableAgrees}
 
 pub table_agrees : TableAgrees
 table_agrees = refl

@@ -1,5 +1,5 @@
 -- What a list kept in a slice holds, and what adding to it does.
-use Rattle.std.specs.Prelude.{◌≡◌, ℕ, ◌+◌, ◌<◌, ◌≤◌, List, ◌++◌, length, take, drop, Ok, Err, Result}
+use Rattle.std.specs.Prelude.{◌≡◌, ℕ, ◌+◌, ◌<◌, List, ◌++◌, length, take, drop, Ok, Err, Result}
 use Rattle.protocol.specs.declared.refusal.Cause.TheVariants.{NoRoom}
 use Rattle.protocol.specs.declared.refusal.Refusal.{Refusal}
 use Rattle.protocol.specs.declared.list.List.{List as Held}

@@ -6,10 +6,9 @@ use Rattle.protocol.specs.Parts.{bits_of, cells_of, field_of, width_by}
 use Rattle.protocol.specs.Instructions.{has_data}
 use Rattle.chips.specs.declared.state.Decision.{Decision}
 use Rattle.chips.specs.declared.state.Decision.TheVariants.{Instruction}
-use Rattle.chips.specs.declared.state.Phase.{Phase}
 use Rattle.chips.specs.declared.state.Phase.TheVariants.{Waiting, Reading}
 use Rattle.chips.specs.declared.state.State.{State}
-use Rattle.chips.specs.Control.{is_clock_edition, verdict_of, obeyed, aged}
+use Rattle.chips.specs.Control.{is_clock_edition, verdict_of, obeyed}
 use Rattle.chips.specs.Machine.{written}
 use Rattle.chips.specs.Pins.{Pins}
 

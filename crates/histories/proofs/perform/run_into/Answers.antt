@@ -1,4 +1,4 @@
-use Rattle.std.proofs.Common.{arith, rules}
+use Rattle.std.proofs.Common.{arith}
 use Rattle.std.proofs.lemmas.Result.{err_from_is_err_and}
 use Rattle.histories.proofs.Performs.{run-refused, run-done}
 use Rattle.histories.proofs.perform.run_into.Goals as goal

@@ -1,5 +1,4 @@
-use Rattle.std.proofs.Common.{◌≡◌, ℕ, ◌<◌, ◌≤◌, leb, drop, sym, ◌∙◌, subst}
-use Rattle.histories.specs.Performing.{words_wanted}
+use Rattle.std.proofs.Common.{sym, ◌∙◌}
 use Rattle.histories.proofs.Performs.{fit_more, fit_stops, fit_all}
 use Rattle.histories.proofs.perform.words_fit.Goals as goal
 

@@ -1,7 +1,6 @@
 use Rattle.std.proofs.Common.{◌≡◌, true, false, ap, ◌∙◌}
 use Rattle.std.proofs.lemmas.Bool.{not-true, not-false}
 use Rattle.chips.specs.declared.control.Control.{Control}
-use Rattle.chips.specs.declared.state.State.{State}
 use Rattle.chips.specs.Control.{rested}
 use Rattle.chips.proofs.Passing.{stays_low, stays-high}
 use Rattle.chips.proofs.control.Control.pass.Goals.{then-not-s, else-not-s}

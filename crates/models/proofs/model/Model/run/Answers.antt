@@ -1,5 +1,5 @@
-use Rattle.std.proofs.Common.{◌≡◌, ℕ, ◌+◌, ◌<◌, List, ◌++◌, length, take, drop, sym, ap, ◌∙◌, arith}
-use Rattle.chips.specs.Machine.{Machine, step, outs}
+use Rattle.std.proofs.Common.{ℕ, ◌+◌, ◌<◌, List, ◌++◌, length, take, drop, sym, ap, ◌∙◌, arith}
+use Rattle.chips.specs.Machine.{step, outs}
 use Rattle.models.specs.Meaning.{machine_with}
 use Rattle.models.proofs.Runs.{run_more, outs-more, put-more, run_all, outs_all}
 use Rattle.models.proofs.model.Model.run.Goals as goal

@@ -1,4 +1,4 @@
-use Rattle.std.proofs.Common.{length, ap, ◌∙◌, arith, length-set}
+use Rattle.std.proofs.Common.{length, ap, arith, length-set}
 use Rattle.models.proofs.Within.{eight_within, sixteen_within}
 use Rattle.models.proofs.model.Model.write.Goals as goal
 
