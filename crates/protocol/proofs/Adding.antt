@@ -1,8 +1,11 @@
 -- Adding to a list, bit by bit.
-use Rattle.std.proofs.Common.{◌≡◌, ℕ, ◌+◌, ◌<◌, ◌≤◌, List, [], ◌∷◌, ◌++◌, length, get_or, take, drop, sym, refl, ap, ◌∙◌, append_assoc, add-zero, arith}
-use Rattle.std.proofs.lemmas.List.{append-nil, length-append, drop-drop, take_more, take_all, length-take-le}
+use Rattle.std.proofs.Common.{◌≡◌, ℕ, ◌+◌, ◌≤◌, List, [], ◌++◌, length, take, drop, sym, refl, ap, ◌∙◌, append_assoc, add-zero, arith}
+use Rattle.std.proofs.lemmas.List.{append-nil, length-append, drop-drop}
+use Rattle.std.proofs.lemmas.Slice.{take-put_mid, drop-put_mid}
+use Rattle.std.proofs.lemmas.Grind.{common_steps}
+use borrow.Rule.Slice.PartMut.{put_mid}
 use Rattle.protocol.specs.declared.list.List.{List as Held}
-use Rattle.protocol.specs.Lists.{items, free, room, Added}
+use Rattle.protocol.specs.Lists.{items, free, Added}
 
 module _ {T : Type 0} where
   pub added_none : (l : Held T) → Added l [] l
@@ -22,18 +25,13 @@ module _ {T : Type 0} where
         same_slice = b.same_slice ∙ a.same_slice;
       }
 
-  -- one more of the items that are to be added
-  pub added_more : (l m n : Held T) (xs : List T) (i : ℕ) (x : T) → i < length xs → x ≡ get_or xs i x → Added l (take i xs) m → Added m (x ∷ []) n →
-      Added l (take (i + 1) xs) n
-  added_more l m n xs i x h e a b =
-      let t : take i xs ++ x ∷ [] ≡ take (i + 1) xs = ap (λ (y : T). take i xs ++ y ∷ []) e ∙ sym (take_more xs i x h) in
-      rw (← t) (added_twice l m n (take i xs) (x ∷ []) a b)
-
-  pub added_all : (l m : Held T) (xs : List T) (i : ℕ) → length xs ≤ i → Added l (take i xs) m → Added l xs m
-  added_all l m xs i h a = rw (take_all i xs h) at a
-
-  -- there is room for the item at i where there was room for all
-  pub room_left : (l m : Held T) (xs : List T) (i : ℕ) → i < length xs → l.count + length xs ≤ room l → Added l (take i xs) m → m.count + 1 ≤ room m
-  room_left l m xs i h f a =
-      let k : length (take i xs) ≡ i = length-take-le i xs (omega arith) in
-      omega (arith, k, a.counts, a.same_room)
+  -- items put over the places behind the first n
+  pub put_over : (s xs ys : List T) (n k : ℕ) → k ≡ length xs → ys ≡ xs → n + length xs ≤ length s →
+      (take (n + length xs) (put_mid n k s ys) ≡ take n s ++ xs) × (drop (n + length xs) (put_mid n k s ys) ≡ drop (length xs) (drop n s))
+      × (length (put_mid n k s ys) ≡ length s)
+  put_over s xs ys n k e f h =
+      let g : length ys ≡ length xs = ap length f in (
+        take-put_mid n k s ys (n + length xs) (omega (arith, g)) (omega (arith, h)) ∙ ap (λ (zs : List T). take n s ++ zs) f,
+        drop-put_mid n k s ys (n + length xs) (omega (arith, e)) (omega (arith, h)) (omega (arith, e, g)) ∙ sym (drop-drop (length xs) n s),
+        grind (arith, common_steps, e, g, h),
+      )

@@ -1,21 +1,15 @@
--- The first sample above 31, as a loop looks for it.
-use Rattle.std.proofs.Common.{◌≡◌, ℕ, ◌+◌, ◌<◌, ◌≤◌, cond, ltb, List, length, get_or, drop, arith}
-use Rattle.std.proofs.lemmas.List.{at_drop_more, at_drop_all}
+-- The first sample above 31.
+use Rattle.std.proofs.Common.{◌≡◌, ℕ, ◌≤◌, Bool, cond, ltb, List, [], ◌∷◌, length, Some, None, arith}
 use Rattle.std.proofs.lemmas.Bool.Decides.{nat_tests}
-use Rattle.protocol.specs.Samples.{high_at}
+use Rattle.std.specs.List.{position, position_or_len}
+use Rattle.std.specs.Option.{unwrap_or}
 
-pub high_here : (bs : List ℕ) (i : ℕ) → i < length bs → 31 < get_or bs i 0 → high_at (drop i bs) ≡ 0
-unfolding high_at
-high_here bs i h k =
-    let e : high_at (drop i bs) ≡ cond (ltb 31 (get_or bs i 0)) 0 (1 + high_at (drop (i + 1) bs)) = at_drop_more high_at bs i 0 h in
-    grind (arith, nat_tests)
+most : {X : Type 0} (p : X → Bool) (xs : List X) → position_or_len p xs ≤ length xs
+most p [] = omega arith
+most p (x ∷ xs) = grind (arith, nat_tests, most p xs)
 
-pub high-more : (bs : List ℕ) (i : ℕ) → i < length bs → get_or bs i 0 ≤ 31 → high_at (drop i bs) ≡ 1 + high_at (drop (i + 1) bs)
-unfolding high_at
-high-more bs i h k =
-    let e : high_at (drop i bs) ≡ cond (ltb 31 (get_or bs i 0)) 0 (1 + high_at (drop (i + 1) bs)) = at_drop_more high_at bs i 0 h in
-    grind (arith, nat_tests)
+chosen : (i n : ℕ) → i ≤ n → unwrap_or (cond (ltb i n) (Some i) None) n ≡ i
+chosen i n h = grind (arith, nat_tests)
 
-pub high_all : (bs : List ℕ) (i : ℕ) → length bs ≤ i → high_at (drop i bs) ≡ 0
-unfolding high_at
-high_all bs i h = at_drop_all high_at bs i h
+pub first_or_len : {X : Type 0} (p : X → Bool) (xs : List X) → unwrap_or (position p xs) (length xs) ≡ position_or_len p xs
+first_or_len p xs = chosen (position_or_len p xs) (length xs) (most p xs)

@@ -1,4 +1,4 @@
-pub mod Table
 pub mod High
+pub mod Table
 pub mod Adding
 pub mod Spans

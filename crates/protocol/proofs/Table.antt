@@ -1,14 +1,15 @@
 -- From the test of the whole table to the rule at each part and width.
-use Rattle.std.proofs.Common.{◌≡◌, ℕ, zero, suc, ◌+◌, ◌*◌, ◌^◌, ◌<◌, ◌≤◌, Bool, true, cond, eqb, List, [], ◌∷◌, length, get_or, drop, Some, None, Option, refl, ◌∙◌, not-suc-le-zero, arith, lit<, ne_eqb, eqb-true, leb-true}
+use Rattle.std.proofs.Common.{◌≡◌, ℕ, zero, suc, ◌*◌, ◌^◌, ◌<◌, ◌≤◌, Bool, true, false, cond, ◌==◌, sym, ap, List, [], ◌∷◌, length, get_or, Some, None, Option, refl, ◌∙◌, not-suc-le-zero, arith, lit<, eqb-true, leb-true}
 use Rattle.std.proofs.lemmas.Bool.{and_parts}
-use Rattle.std.proofs.lemmas.List.{at_drop_more}
+use Rattle.std.specs.List.{find}
+use Rattle.std.specs.Option.{option_map}
 use Rattle.protocol.specs.declared.parts.Part.{Part}
 use Rattle.protocol.specs.declared.parts.Part.TheVariants.{C46, C56, C66, C76, C86}
 use Rattle.protocol.specs.declared.parts.Width.{Width}
 use Rattle.protocol.specs.declared.parts.Width.TheVariants.{Eight, Sixteen}
 use Rattle.protocol.specs.declared.parts.Layout.{Layout}
 use Rattle.protocol.specs.declared.parts.Row.{Row}
-use Rattle.protocol.specs.Parts.{row_of, rows, find_part, bytes_in, or_else, bytes_of, cells_of, field_of, agrees_at, agrees_at_eight, agrees, every, TableAgrees}
+use Rattle.protocol.specs.Parts.{row_of, rows, find_part, part_numbered, bytes_in, or_else, bytes_of, cells_of, field_of, agrees_at, agrees_at_eight, agrees, every, TableAgrees}
 
 pub table_agrees : TableAgrees
 table_agrees = refl
@@ -74,10 +75,20 @@ agreed part Eight =
     let e = at_eight (bytes_of part) (row_of part).eight (row_of part).sixteen (and_parts _ _ (every-part agrees table_agrees part)).1 (at_sixteen part) in
     record { some = e.0; within = e.1; addressed = e.2; least = e.3; most = e.4 }
 
--- a row that has another number is passed over
-pub passed : (rs : List Row) (number i : ℕ) (d : Row) → i < length rs → ((get_or rs i d).number ≡ number → ⊥) →
-    find_part (drop i rs) number ≡ find_part (drop (i + 1) rs) number
-passed rs number i d h n =
-    let e : find_part (drop i rs) number ≡ cond (eqb (get_or rs i d).number number) (Some (get_or rs i d).part) (find_part (drop (i + 1) rs) number) =
-    at_drop_more (λ (r : List Row). find_part r number) rs i d h in
-    e ∙ rw (ne_eqb (get_or rs i d).number number n)
+-- the row that has a number
+abbrev pub has_number : ℕ → Row → Bool
+has_number number r = r.number == number
+
+picked : (b : Bool) (r : Row) (p : Option Part) (o : Option Row) → p ≡ option_map (λ (r : Row). r.part) o →
+    cond b (Some r.part) p ≡ option_map (λ (r : Row). r.part) (cond b (Some r) o)
+picked true r p o e = refl
+picked false r p o e = e
+
+-- The part of a number is that of the first row that has it.
+pub found_in : (rs : List Row) (number : ℕ) → find_part rs number ≡ option_map (λ (r : Row). r.part) (find (has_number number) rs)
+found_in [] number = refl
+found_in (r ∷ rs) number = picked (r.number == number) r _ _ (found_in rs number)
+
+-- what finding the row of a number among the rows answers
+pub answered : (number : ℕ) (r : Option Row) → r ≡ find (has_number number) rows → option_map (λ (r : Row). r.part) r ≡ part_numbered number
+answered number r e = ap (option_map (λ (r : Row). r.part)) e ∙ sym (found_in rows number)

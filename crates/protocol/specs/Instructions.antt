@@ -1,5 +1,7 @@
 -- What the bits of an instruction say. They are a count and the number that they are in base two.
-use Rattle.std.specs.Prelude.{ℕ, ◌+◌, ◌-◌, ◌/◌, ◌%◌, ◌^◌, Bool, true, false, cond, ◌==◌}
+use Rattle.std.specs.Prelude.{ℕ, ◌+◌, ◌-◌, ◌/◌, ◌%◌, ◌^◌, Bool, true, false, cond, List, ◌==◌, codes}
+use Rattle.protocol.specs.declared.instruction.Instruction.{Instruction}
+use Rattle.protocol.specs.declared.instruction.Instruction.TheVariants as instruction
 use Rattle.protocol.specs.declared.instruction.Kind.{Kind}
 use Rattle.protocol.specs.declared.instruction.Kind.TheVariants.{Read, Write, Erase, Wen, Wds, Eral, Wrall}
 use Rattle.protocol.specs.declared.parts.Part.{Part}
@@ -11,6 +13,44 @@ abbrev pub kind_of : ℕ → ℕ → Kind
 kind_of opcode first =
     cond (opcode == 2) Read (cond (opcode == 1) Write (cond (opcode == 3) Erase
     (cond (first == 3) Wen (cond (first == 0) Wds (cond (first == 2) Eral Wrall)))))
+
+-- its word in a listing
+abbrev pub kind_word : Kind → List ℕ
+kind_word Read = codes "READ"
+kind_word Write = codes "WRITE"
+kind_word Erase = codes "ERASE"
+kind_word Wen = codes "WEN"
+kind_word Wds = codes "WDS"
+kind_word Eral = codes "ERAL"
+kind_word Wrall = codes "WRALL"
+
+-- What an instruction that is to be sent says: its kind, its address and its data, 0 where it has none.
+abbrev pub kind_in : Instruction → Kind
+kind_in (instruction.Read address words) = Read
+kind_in (instruction.Write address value) = Write
+kind_in (instruction.Erase address) = Erase
+kind_in instruction.Wen = Wen
+kind_in instruction.Wds = Wds
+kind_in instruction.Eral = Eral
+kind_in (instruction.Wrall value) = Wrall
+
+abbrev pub address_in : Instruction → ℕ
+address_in (instruction.Read address words) = address
+address_in (instruction.Write address value) = address
+address_in (instruction.Erase address) = address
+address_in instruction.Wen = 0
+address_in instruction.Wds = 0
+address_in instruction.Eral = 0
+address_in (instruction.Wrall value) = 0
+
+abbrev pub value_in : Instruction → ℕ
+value_in (instruction.Read address words) = 0
+value_in (instruction.Write address value) = value
+value_in (instruction.Erase address) = 0
+value_in instruction.Wen = 0
+value_in instruction.Wds = 0
+value_in instruction.Eral = 0
+value_in (instruction.Wrall value) = value
 
 abbrev pub has_data : Kind → Bool
 has_data Read = false

@@ -4,6 +4,7 @@ use Rattle.protocol.specs.declared.parts.Part.{Part}
 use Rattle.protocol.specs.declared.parts.Part.TheVariants.{C46, C56, C66, C76, C86}
 use Rattle.protocol.specs.declared.parts.Width.{Width}
 use Rattle.protocol.specs.declared.parts.Width.TheVariants.{Eight, Sixteen}
+use Rattle.protocol.specs.declared.parts.Organisation.{Organisation}
 use Rattle.protocol.specs.declared.parts.Layout.{Layout}
 use Rattle.protocol.specs.declared.parts.Row.{Row}
 
@@ -56,6 +57,9 @@ or_else (Some k) l = k
 abbrev pub layout_of : Part → Width → Layout
 layout_of part Eight = or_else (row_of part).eight (row_of part).sixteen
 layout_of part Sixteen = (row_of part).sixteen
+
+abbrev pub organisation : Part → Width → Organisation
+organisation part width = record { part = part; width = width }
 
 abbrev pub bytes_of : Part → ℕ
 bytes_of part = (row_of part).bytes

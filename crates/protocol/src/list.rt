@@ -4,6 +4,7 @@ ghost use Rattle.std.specs.Prelude.{◌≤◌, length};
 mod adding;
 mod calls;
 
+// The slice is the caller's, since the libraries take no heap.
 #[derive(Drop)]
 pub struct List<'a, T> {
     slice: &'a mut [T],

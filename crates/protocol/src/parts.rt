@@ -4,7 +4,7 @@ mod calls;
 pub use calls::table_agrees;
 
 // A part, by the number that ends its name.
-#[derive(Clone, Copy)]
+#[derive(Clone, Copy, Drop, PartialEq, Eq, Debug)]
 pub enum Part {
     C46,
     C56,
@@ -20,7 +20,14 @@ pub enum Width {
     Sixteen,
 }
 
-// A part at one width: how many cells it has, and how many bits an address takes.
+// A part at one width, as ORG organises its memory.
+#[derive(Clone, Copy, Drop)]
+pub struct Organisation {
+    pub part: Part,
+    pub width: Width,
+}
+
+// A part at one width in numbers: how many cells it has, and how many bits an address takes.
 #[derive(Clone, Copy)]
 pub struct Layout {
     pub cells: u16,

@@ -5,7 +5,7 @@ mod calls;
 #[derive(Clone, Copy, Drop, PartialEq, Eq, Debug)]
 pub enum Cause {
     // the input
-    Address,
+    Address = 1,
     Value,
     WordCount,
     HighSample,

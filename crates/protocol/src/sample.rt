@@ -12,3 +12,10 @@ pub struct Sample {
     pub org: bool,
     pub pe: bool,
 }
+
+// The levels to which a board ties ORG and PE.
+#[derive(Clone, Copy, Drop)]
+pub struct Straps {
+    pub org: bool,
+    pub pe: bool,
+}

@@ -4,7 +4,7 @@ use crate::parts::Part;
 mod calls;
 
 // When an instruction that changes cells is carried out.
-#[derive(Clone, Copy)]
+#[derive(Clone, Copy, Drop, PartialEq, Eq, Debug)]
 pub enum Edition {
     // as CS falls, and only at exactly its length
     Fall,
@@ -21,7 +21,7 @@ pub struct Cycles {
     pub wrall: u16,
 }
 
-// A chip as a caller or a file names it, by numbers that may fit no chip.
+// A chip as a caller or a file names it, by numbers that may fit no chip: enums would ask more of both.
 #[derive(Clone, Copy)]
 pub struct Settings {
     pub part: u8,

@@ -1,5 +1,5 @@
 //! Adding to a list.
-ghost use Rattle.std.specs.Prelude.{◌<◌, List as ListOf, [], ◌∷◌};
+ghost use Rattle.std.specs.Prelude.{◌+◌, ◌<◌, ◌≤◌, List as ListOf, [], ◌∷◌, length};
 ghost use Rattle.protocol.specs.Lists.{room, Added, Adds};
 
 use crate::list::List;
@@ -16,15 +16,22 @@ impl<T: Copy> List<'_, T> {
         self.count = at + 1;
     }
 
+    // All of these, in the free places.
+    fn store_all(&mut self, more: &[T])
+        requires { self.old.count + length more.now ≤ room self.old }
+        ensures { Added self.old more.now self.new }
+    {
+        let end = self.count + more.len();
+        self.slice[self.count..end].copy_from_slice(more);
+        self.count = end;
+    }
+
     // One item more, or a refusal at the place given, which leaves the list as it was.
     pub fn push(&mut self, item: T, place: usize) -> Result<(), Refusal>
         ensures { Adds self.old (item ∷ []) place self.new result }
     {
         if self.count >= self.slice.len() {
-            return Err(Refusal {
-                cause: Cause::NoRoom,
-                place,
-            });
+            return Err(Cause::NoRoom.at(place));
         }
         self.store(item);
         Ok(())
@@ -35,14 +42,9 @@ impl<T: Copy> List<'_, T> {
         ensures { Adds self.old more.now place self.new result }
     {
         if more.len() > self.slice.len() - self.count {
-            return Err(Refusal {
-                cause: Cause::NoRoom,
-                place,
-            });
+            return Err(Cause::NoRoom.at(place));
         }
-        for item in more {
-            self.push(*item, place)?;
-        }
+        self.store_all(more);
         Ok(())
     }
 }

@@ -1,8 +1,10 @@
 //! What is looked up in the table.
-ghost use Rattle.std.specs.Prelude.{◌≡◌, ◌*◌, ◌<◌, ◌≤◌};
-ghost use Rattle.protocol.specs.Parts.{row_of, part_numbered, bits_of, bytes_in, ones_of, bytes_of, layout_of, cells_of, field_of, width_by, rows, agrees, every, TableAgrees};
+ghost use Rattle.std.specs.Prelude.{◌≡◌, ◌*◌, ◌<◌, ◌≤◌, ok_or};
+ghost use Rattle.protocol.specs.declared.refusal.Cause.TheVariants.{BadSettings};
+ghost use Rattle.protocol.specs.Parts.{row_of, part_numbered, organisation, bits_of, bytes_in, ones_of, bytes_of, layout_of, cells_of, field_of, width_by, rows, agrees, every, TableAgrees};
 
-use crate::parts::{Layout, PARTS, Part, Row, Width};
+use crate::parts::{Layout, Organisation, PARTS, Part, Row, Width};
+use crate::refusal::Cause;
 
 impl Width {
     pub fn bits(self) -> u8
@@ -25,18 +27,21 @@ impl Width {
     }
 }
 
-impl Part {
-    pub fn from_number(number: u8) -> Option<Part>
-        ensures { result ≡ part_numbered number }
-    {
-        for row in PARTS.iter() {
-            if row.number == number {
-                return Some(row.part);
-            }
-        }
-        None
-    }
+// The part with a number.
+impl TryFrom<u8> for Part {
+    type Error = Cause;
 
+    ghost try_from_gives = { λ number part. part ≡ ok_or (part_numbered number) BadSettings };
+
+    fn try_from(number: u8) -> Result<Part, Cause> {
+        match PARTS.iter().find(|row| row.number == number) {
+            Some(row) => Ok(row.part),
+            None => Err(Cause::BadSettings),
+        }
+    }
+}
+
+impl Part {
     pub fn row(self) -> Row
         ensures { result ≡ row_of self }
     {
@@ -55,45 +60,6 @@ impl Part {
         self.row().bytes
     }
 
-    fn layout(self, width: Width) -> Layout
-        ensures { result ≡ layout_of self width }
-    {
-        let row = self.row();
-        match (width, row.eight) {
-            (Width::Eight, Some(eight)) => eight,
-            _ => row.sixteen,
-        }
-    }
-
-    // The layout, with what the table's agreement says of it.
-    fn agreed_layout(self, width: Width) -> Layout
-        ensures cells { result.cells ≡ cells_of self width }
-        ensures some { 0 < result.cells }
-        ensures within { result.cells * bytes_in width ≤ bytes_of self }
-        ensures field { result.field ≡ field_of self width }
-        ensures least { 6 ≤ result.field }
-        ensures most { result.field ≤ 11 }
-    {
-        self.layout(width)
-    }
-
-    pub fn cells(self, width: Width) -> u16
-        ensures is { result ≡ cells_of self width }
-        ensures some { 0 < result }
-        ensures within { result * bytes_in width ≤ bytes_of self }
-    {
-        self.agreed_layout(width).cells
-    }
-
-    // How many bits an address takes.
-    pub fn field(self, width: Width) -> u8
-        ensures is { result ≡ field_of self width }
-        ensures least { 6 ≤ result }
-        ensures most { result ≤ 11 }
-    {
-        self.agreed_layout(width).field
-    }
-
     // The width in force at a level of ORG.
     pub fn width(self, org: bool) -> Width
         ensures { result ≡ width_by self org }
@@ -102,6 +68,53 @@ impl Part {
             (Part::C46, _) | (_, true) => Width::Sixteen,
             (_, false) => Width::Eight,
         }
+    }
+
+    pub fn organised(self, width: Width) -> Organisation
+        ensures { result ≡ organisation self width }
+    {
+        Organisation { part: self, width }
+    }
+}
+
+impl Organisation {
+    fn layout(self) -> Layout
+        ensures { result ≡ layout_of self.part self.width }
+    {
+        let row = self.part.row();
+        match (self.width, row.eight) {
+            (Width::Eight, Some(eight)) => eight,
+            _ => row.sixteen,
+        }
+    }
+
+    // The layout, with what the table's agreement says of it.
+    fn agreed_layout(self) -> Layout
+        ensures cells { result.cells ≡ cells_of self.part self.width }
+        ensures some { 0 < result.cells }
+        ensures within { result.cells * bytes_in self.width ≤ bytes_of self.part }
+        ensures field { result.field ≡ field_of self.part self.width }
+        ensures least { 6 ≤ result.field }
+        ensures most { result.field ≤ 11 }
+    {
+        self.layout()
+    }
+
+    pub fn cells(self) -> u16
+        ensures is { result ≡ cells_of self.part self.width }
+        ensures some { 0 < result }
+        ensures within { result * bytes_in self.width ≤ bytes_of self.part }
+    {
+        self.agreed_layout().cells
+    }
+
+    // How many bits an address takes.
+    pub fn field(self) -> u8
+        ensures is { result ≡ field_of self.part self.width }
+        ensures least { 6 ≤ result }
+        ensures most { result ≤ 11 }
+    {
+        self.agreed_layout().field
     }
 }
 

@@ -1,29 +1,46 @@
-//! The numbers of the causes.
-ghost use Rattle.std.specs.Prelude.{◌≡◌};
-ghost use Rattle.protocol.specs.Refusals.{number_of};
+//! Refusals as numbers and as text.
+ghost use Rattle.std.specs.Prelude.{◌≡◌, Some};
+ghost use Rattle.protocol.specs.Refusals.{number_of, refusal, refusal_text};
 
-use crate::refusal::Cause;
+use crate::refusal::{Cause, Refusal};
+use std::error::Error;
+use std::fmt;
 
 impl Cause {
-    pub fn number(self) -> u8
-        ensures { result ≡ number_of self }
+    // A refusal at a place.
+    pub fn at(self, place: usize) -> Refusal
+        ensures { result ≡ refusal self place }
     {
-        match self {
-            Cause::Address => 1,
-            Cause::Value => 2,
-            Cause::WordCount => 3,
-            Cause::HighSample => 4,
-            Cause::BufferLength => 5,
-            Cause::BadSettings => 6,
-            Cause::MemorySize => 7,
-            Cause::NoRoom => 8,
-            Cause::FileForm => 9,
-            Cause::BlankChip => 10,
-            Cause::NotGreeted => 11,
-            Cause::Shut => 12,
-            Cause::Protected => 13,
-            Cause::Busy => 14,
-            Cause::Unfinished => 15,
-        }
+        Refusal { cause: self, place }
     }
 }
+
+// The number of a cause.
+impl From<Cause> for u8 {
+    ghost from_gives = { λ cause number. number ≡ number_of cause };
+
+    fn from(cause: Cause) -> u8 {
+        cause as u8
+    }
+}
+
+// A refusal that has no place.
+impl From<Cause> for Refusal {
+    ghost from_gives = { λ cause r. r ≡ refusal cause 0 };
+
+    fn from(cause: Cause) -> Refusal {
+        cause.at(0)
+    }
+}
+
+impl fmt::Display for Refusal {
+    ghost output = { λ r. Some (refusal_text r) };
+
+    fn fmt<W: fmt::Write>(&self, f: &mut fmt::Formatter<W>) -> fmt::Result {
+        let number = u8::from(self.cause);
+        let place = self.place;
+        write!(f, "refused {number} at {place}")
+    }
+}
+
+impl Error for Refusal {}

@@ -1,15 +1,16 @@
 //! Samples as bytes.
 ghost use Rattle.std.specs.Prelude.{◌≡◌};
-ghost use Rattle.protocol.specs.Samples.{levels, high_at, samples_checked};
+ghost use Rattle.std.specs.List.{position};
+ghost use Rattle.protocol.specs.Samples.{levels, strapped, byte_of, is_high, high_at, samples_checked};
 
 use crate::refusal::{Cause, Refusal};
-use crate::sample::Sample;
+use crate::sample::{Sample, Straps};
 
-impl Sample {
-    // Bit 0 is CS, then SK, DI, ORG and PE; the other bits say nothing.
-    pub fn from_byte(byte: u8) -> Sample
-        ensures { result ≡ levels byte }
-    {
+// Bit 0 is CS, then SK, DI, ORG and PE; the other bits say nothing.
+impl From<u8> for Sample {
+    ghost from_gives = { λ byte sample. sample ≡ levels byte };
+
+    fn from(byte: u8) -> Sample {
         Sample {
             cs: byte % 2 == 1,
             sk: byte / 2 % 2 == 1,
@@ -20,16 +21,46 @@ impl Sample {
     }
 }
 
+impl From<Sample> for u8 {
+    ghost from_gives = { λ sample byte. byte ≡ byte_of sample };
+
+    fn from(s: Sample) -> u8 {
+        s.cs as u8 + 2 * s.sk as u8 + 4 * s.di as u8 + 8 * s.org as u8 + 16 * s.pe as u8
+    }
+}
+
+impl Straps {
+    pub const HIGH: Straps = Straps {
+        org: true,
+        pe: true,
+    };
+
+    // A sample at these levels.
+    pub fn sample(self, cs: bool, sk: bool, di: bool) -> Sample
+        ensures { result ≡ strapped self cs sk di }
+    {
+        Sample {
+            cs,
+            sk,
+            di,
+            org: self.org,
+            pe: self.pe,
+        }
+    }
+}
+
+fn high_position(samples: &[u8]) -> Option<usize>
+    ensures { result ≡ position is_high samples.now }
+{
+    samples.iter().position(|byte| *byte > 31)
+}
+
 // The place of the first sample byte above 31, or the length.
+#[tactic(auto, using(crate::proofs::High::first_or_len))]
 pub fn first_high(samples: &[u8]) -> usize
     ensures { result ≡ high_at samples.now }
 {
-    for (i, byte) in samples.iter().enumerate() {
-        if *byte > 31 {
-            return i;
-        }
-    }
-    samples.len()
+    high_position(samples).unwrap_or(samples.len())
 }
 
 // Refuses samples of which one is above 31, at the place of the first such.
@@ -38,10 +69,7 @@ pub fn check_samples(samples: &[u8]) -> Result<(), Refusal>
 {
     let place = first_high(samples);
     if place < samples.len() {
-        return Err(Refusal {
-            cause: Cause::HighSample,
-            place,
-        });
+        return Err(Cause::HighSample.at(place));
     }
     Ok(())
 }
