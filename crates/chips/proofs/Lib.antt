@@ -1,4 +1,2 @@
-pub mod Append
 pub mod Lengths
-mod Passing
 mod Midways

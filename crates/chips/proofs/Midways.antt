@@ -11,7 +11,8 @@ use Rattle.protocol.proofs.Table.{agreed}
 use Rattle.chips.specs.declared.state.Decision.TheVariants.{Nothing}
 use Rattle.chips.specs.declared.state.Phase.TheVariants.{Taking}
 use Rattle.chips.specs.declared.state.State.{State}
-use Rattle.chips.specs.Control.{is_clock_edition, turn_to, in_phase, bit_of, appended}
+use Rattle.chips.specs.Control.{is_clock_edition, turn_to, in_phase, appended}
+use Rattle.protocol.specs.Samples.{bit_of}
 use Rattle.chips.specs.Fits.{Midway}
 
 and_no : (b : Bool) → (b && false) ≡ false

@@ -9,6 +9,7 @@ use Rattle.protocol.specs.declared.settings.Edition.{Edition}
 use Rattle.protocol.specs.declared.settings.Edition.TheVariants.{Fall, Clock}
 use Rattle.protocol.specs.declared.settings.Setup.{Setup}
 use Rattle.protocol.specs.Parts.{bits_of, cells_of, field_of, width_by}
+use Rattle.protocol.specs.Samples.{bit_of}
 use Rattle.protocol.specs.Instructions.{is_read, is_change, length_of, kind_at, cell_at, value_at}
 use Rattle.chips.specs.declared.state.Phase.{Phase}
 use Rattle.chips.specs.declared.state.Phase.TheVariants.{Waiting, Taking, Reading, Spoiled, Over}
@@ -108,9 +109,6 @@ shown_busy st = record { enabled = st.enabled; left = st.left; status = true; cs
 -- Rule 4. A clock: CS high now and before, SK high now and low before; while a cycle is under way it does nothing.
 abbrev pub is_clock : Sample → State → Bool
 is_clock s st = s.cs && st.cs && s.sk && not st.sk && st.left == 0
-
-abbrev pub bit_of : Bool → ℕ
-bit_of b = cond b 1 0
 
 -- in taking, an instruction that has got one more bit: a READ begins at its address, the clock edition carries out at the length
 abbrev pub taken : Setup → Bool → Width → ℕ → ℕ → State → Turn

@@ -4,3 +4,5 @@ pub mod Fits
 pub mod Pins
 pub mod Fitting
 pub mod Seen
+pub mod Turning
+pub mod Verdicts

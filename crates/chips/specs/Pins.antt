@@ -6,7 +6,7 @@ use Rattle.protocol.specs.declared.sample.Sample.{Sample}
 use Rattle.protocol.specs.declared.settings.Edition.{Edition}
 use Rattle.protocol.specs.declared.settings.Edition.TheVariants.{Fall, Clock}
 use Rattle.protocol.specs.Parts.{row_of}
-use Rattle.chips.specs.Control.{bit_of}
+use Rattle.protocol.specs.Samples.{bit_of}
 use Rattle.chips.specs.Machine.{Machine, step}
 
 pub record Pins : Type 0 where

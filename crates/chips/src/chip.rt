@@ -15,12 +15,12 @@ pub trait Chip {
 
     ghost next: { View → Pins → Put → View };
 
-    // The part's number, and the levels of ORG and PE.
+    // The part's number, and the levels of ORG and PE; three numbers together, as every chip is to tell them.
     fn facts(&self) -> (u8, u8, u8)
         ensures told { result ≡ facts_of (meaning self.now) }
         ensures fits { Fitting (meaning self.now) };
 
-    // One sample; the answer is DO: 0, 1, or 2 for high impedance.
+    // One sample; the answer is DO: 0, 1, or 2 for high impedance, a number since DO buffers hold these bytes.
     fn put(&mut self, cs: bool, sk: bool, di: bool) -> u8
         ensures steps { seen view meaning self.new ≡ stepped next (seen view meaning self.old) (levels cs sk di) }
         ensures answers { result ≡ do_of (put_on (meaning self.old) (levels cs sk di)) };

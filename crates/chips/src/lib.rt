@@ -1,7 +1,8 @@
 //! The 93C pin machine: what a chip does at each sample of its pins, and what every chip promises.
 #![tactic(auto)]
 
-mod bits;
 pub mod chip;
 pub mod control;
+mod incoming;
+mod lent;
 pub mod state;

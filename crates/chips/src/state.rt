@@ -1,4 +1,6 @@
 //! What a chip keeps from sample to sample, and what a sample decides.
+mod calls;
+
 use protocol::instruction::Kind;
 use protocol::parts::Width;
 

@@ -30,7 +30,7 @@ impl Control {
         self.setup
     }
 
-    // DO where no data bit comes, after a sample before which it was `out`.
+    // DO where no data bit comes, after a sample before which it was `out`; a number as `put` answers it.
     pub fn hold(&self, out: u8) -> u8
         ensures { result ≡ held self.now.state self.now.state.phase out }
     {

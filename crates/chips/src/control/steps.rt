@@ -1,73 +1,26 @@
 //! One sample after the other.
-ghost use Rattle.std.specs.Prelude.{◌≡◌, ◌^◌, ◌<◌, ◌≤◌, true, false, not, ◌&&◌, ◌==◌};
+ghost use Rattle.std.specs.Prelude.{◌≡◌, ◌^◌, ◌<◌, ◌≤◌, true};
+ghost use Rattle.protocol.specs.Parts.{organisation, cells_of, bits_of};
 ghost use Rattle.protocol.specs.Instructions.{length_of, kind_at};
-ghost use Rattle.chips.specs.Control.{aged, is_clock_edition, verdict_of, instruction_at, begun, obeyed, ending, ended, rested, deselected, is_clock, is_quiet, taken, appended, clocked, turned, turn_to, turn};
+ghost use Rattle.chips.specs.Control.{aged, is_clock_edition, verdict_of, instruction_at, begun, obeyed, in_phase, ending, ended, rested, deselected, is_clock, is_quiet, read_on, taken, appended, clocked, turned, turn_to, turn};
 ghost use Rattle.chips.specs.declared.state.Decision.TheVariants.{Nothing};
-ghost use Rattle.chips.specs.Fits.{DecisionFits};
+ghost use Rattle.chips.specs.declared.state.Phase.TheVariants.{Taking};
+ghost use Rattle.chips.specs.Fits.{PhaseFits, DecisionFits};
+ghost use Rattle.chips.specs.Turning.{Turns};
 
-use crate::bits::{
-    append, cell_at, has_read_address, is_midway, is_short, is_whole, kind, read_on, value_at,
-};
 use crate::control::Control;
-use crate::state::{Decision, Phase, Verdict};
+use crate::incoming::{Incoming, Permission};
+use crate::state::{Decision, Phase};
 use protocol::instruction::Kind;
 use protocol::parts::Width;
 use protocol::sample::Sample;
-use protocol::settings::Edition;
+use protocol::settings::{Edition, Setup};
 
 impl Control {
     fn is_clock_edition(&self) -> bool
         ensures { result ≡ is_clock_edition self.now.setup.edition }
     {
-        match self.setup.edition {
-            Edition::Fall => false,
-            Edition::Clock => true,
-        }
-    }
-
-    // Shut is judged before protected.
-    fn verdict(&self, pe: bool, kind: Kind) -> Verdict
-        ensures { result ≡ verdict_of self.now.setup.edition self.now.state.enabled pe kind }
-    {
-        if !kind.is_change() {
-            Verdict::CarriedOut
-        } else if !self.state.enabled {
-            Verdict::Shut
-        } else if self.is_clock_edition() && !pe {
-            Verdict::Protected
-        } else {
-            Verdict::CarriedOut
-        }
-    }
-
-    // An instruction of its whole length.
-    fn instruction(&self, pe: bool, width: Width, count: u8, bits: u32) -> Decision
-        requires { (count < 32) × (count ≡ length_of self.now.setup.part width (kind_at count bits)) }
-        ensures is { result ≡ instruction_at self.now.setup self.now.state.enabled pe width count bits }
-        ensures fits { DecisionFits self.now.setup.part result }
-    {
-        let part = self.setup.part;
-        let kind = kind(count, bits);
-        Decision::Instruction {
-            kind,
-            width,
-            cell: cell_at(part, width, count, bits),
-            value: value_at(part, width, kind, count, bits),
-            verdict: self.verdict(pe, kind),
-        }
-    }
-
-    // Begins the cycle of a change that is not turned down.
-    fn begin(&mut self, cycle: u16, verdict: Verdict)
-        ensures state { self.new.state ≡ begun self.old.setup.edition cycle verdict self.old.state }
-        ensures setup { self.new.setup ≡ self.old.setup }
-    {
-        if let Verdict::CarriedOut = verdict {
-            self.state.left = cycle;
-            if self.is_clock_edition() {
-                self.state.status = true;
-            }
-        }
+        self.setup.edition == Edition::Clock
     }
 
     // Carries out what was decided.
@@ -76,15 +29,44 @@ impl Control {
         ensures setup { self.new.setup ≡ self.old.setup }
     {
         if let Decision::Instruction { kind, verdict, .. } = decision {
-            let cycles = self.setup.cycles;
+            let Setup {
+                edition,
+                cycles,
+                ..
+            } = self.setup;
             match kind {
                 Kind::Wen => self.state.enabled = true,
                 Kind::Wds => self.state.enabled = false,
-                Kind::Write | Kind::Erase => self.begin(cycles.write, verdict),
-                Kind::Eral => self.begin(cycles.eral, verdict),
-                Kind::Wrall => self.begin(cycles.wrall, verdict),
+                Kind::Write | Kind::Erase => self.state.begin(edition, cycles.write, verdict),
+                Kind::Eral => self.state.begin(edition, cycles.eral, verdict),
+                Kind::Wrall => self.state.begin(edition, cycles.wrall, verdict),
                 Kind::Read => {}
             }
+        }
+    }
+
+    fn permission(&self, pe: bool) -> Permission
+        ensures enabled { result.enabled ≡ self.now.state.enabled }
+        ensures pe { result.pe ≡ pe }
+    {
+        Permission {
+            enabled: self.state.enabled,
+            pe,
+        }
+    }
+
+    fn incoming(&self, width: Width, count: u8, bits: u32) -> Incoming
+        requires { (count ≤ 29) × (bits < 2 ^ count) }
+        ensures setup { result.setup ≡ self.now.setup }
+        ensures width { result.width ≡ width }
+        ensures count { result.count ≡ count }
+        ensures bits { result.bits ≡ bits }
+    {
+        Incoming {
+            setup: self.setup,
+            width,
+            count,
+            bits,
         }
     }
 
@@ -95,81 +77,75 @@ impl Control {
     {
         match self.state.phase {
             Phase::Taking { width, count, bits } => {
-                if !self.is_clock_edition() && is_whole(self.setup.part, width, count, bits) {
-                    self.instruction(pe, width, count, bits)
-                } else {
-                    Decision::WrongCount
-                }
+                self.incoming(width, count, bits)
+                    .ending(self.permission(pe))
             }
             Phase::Spoiled => Decision::WrongCount,
             _ => Decision::Nothing,
         }
     }
 
-    // The chip waits, with status off.
-    fn rest(&mut self)
-        ensures state { self.new.state ≡ rested self.old.state }
-        ensures setup { self.new.setup ≡ self.old.setup }
-    {
-        self.state.status = false;
-        self.state.phase = Phase::Waiting;
-    }
-
-    // Does the clock edition carry out now?
-    fn completes(&self, width: Width, count: u8, bits: u32) -> bool
-        requires { count < 32 }
-        ensures { result ≡ (is_clock_edition self.now.setup.edition && count == length_of self.now.setup.part width (kind_at count bits)) }
-    {
-        self.is_clock_edition() && is_whole(self.setup.part, width, count, bits)
-    }
-
     // An instruction has got one more bit.
-    fn take(&mut self, pe: bool, width: Width, count: u8, bits: u32) -> Decision
-        requires { (count ≤ 29) × (bits < 2 ^ count) }
-        ensures state { self.new.state ≡ (taken self.old.setup pe width count bits self.old.state).state }
-        ensures decision { result ≡ (taken self.old.setup pe width count bits self.old.state).decision }
-        ensures fits { DecisionFits self.old.setup.part result }
-        ensures setup { self.new.setup ≡ self.old.setup }
+    fn take(&mut self, pe: bool, incoming: Incoming) -> Decision
+        requires { incoming.setup ≡ self.old.setup }
+        ensures { Turns self.old self.new result (taken self.old.setup pe incoming.width incoming.count incoming.bits self.old.state) }
     {
-        if has_read_address(self.setup.part, width, count, bits) {
-            let cell = cell_at(self.setup.part, width, count, bits);
+        let width = incoming.width;
+        if incoming.has_read_address() {
+            let cell = incoming.cell();
             self.state.phase = Phase::Reading {
                 width,
                 cell,
                 next: 0,
             };
             Decision::Address { width, cell }
-        } else if self.completes(width, count, bits) {
-            let instruction = self.instruction(pe, width, count, bits);
+        } else if self.is_clock_edition() && incoming.is_whole() {
+            let instruction = incoming.instruction(self.permission(pe));
             self.obey(instruction);
             self.state.phase = Phase::Over;
             instruction
         } else {
-            self.state.phase = Phase::Taking { width, count, bits };
+            self.state.phase = incoming.into();
             Decision::Nothing
         }
     }
 
     // A clock while an instruction comes in.
-    fn append(&mut self, s: Sample, width: Width, count: u8, bits: u32) -> Decision
-        requires { (count ≤ 29) × (bits < 2 ^ count) }
-        ensures state { self.new.state ≡ (appended self.old.setup s width count bits self.old.state).state }
-        ensures decision { result ≡ (appended self.old.setup s width count bits self.old.state).decision }
-        ensures fits { DecisionFits self.old.setup.part result }
-        ensures setup { self.new.setup ≡ self.old.setup }
+    #[tactic(auto, using(crate::proofs::Midways::midway), unfolding(crate::specs::Control::appended))]
+    fn append(&mut self, s: Sample, incoming: Incoming) -> Decision
+        requires { incoming.setup ≡ self.old.setup }
+        ensures { Turns self.old self.new result (appended self.old.setup s incoming.width incoming.count incoming.bits self.old.state) }
     {
-        if is_midway(self.setup.part, width, count, bits) {
-            self.state.phase = Phase::Taking {
-                width,
-                count: count + 1,
-                bits: append(bits, count, s.di),
-            };
+        if incoming.is_midway() {
+            self.state.phase = incoming.append(s.di).into();
             Decision::Nothing
-        } else if is_short(self.setup.part, width, count, bits) {
-            self.take(s.pe, width, count + 1, append(bits, count, s.di))
+        } else if incoming.is_short() {
+            self.take(s.pe, incoming.append(s.di))
         } else {
             self.state.phase = Phase::Spoiled;
             Decision::Nothing
+        }
+    }
+
+    // The phase after a clock in reading.
+    fn read_on(&self, width: Width, cell: u16, next: u8) -> Phase
+        requires { (cell < cells_of self.now.setup.part width) × (next < bits_of width) }
+        ensures is { result ≡ read_on self.now.setup.part width cell next }
+        ensures fits { PhaseFits self.now.setup.part result }
+    {
+        if next + 1 < width.bits() {
+            Phase::Reading {
+                width,
+                cell,
+                next: next + 1,
+            }
+        } else {
+            let cells = self.setup.part.organised(width).cells();
+            Phase::Reading {
+                width,
+                cell: (cell + 1) % cells,
+                next: 0,
+            }
         }
     }
 
@@ -182,10 +158,7 @@ impl Control {
 
     // CS is low.
     fn deselect(&mut self, s: Sample) -> Decision
-        ensures state { self.new.state ≡ (deselected self.old.setup (ended self.old.setup s self.old.state) self.old.state).state }
-        ensures decision { result ≡ ended self.old.setup s self.old.state }
-        ensures fits { DecisionFits self.old.setup.part result }
-        ensures setup { self.new.setup ≡ self.old.setup }
+        ensures { Turns self.old self.new result (deselected self.old.setup (ended self.old.setup s self.old.state) self.old.state) }
     {
         let decision = if self.state.cs {
             self.ending(s.pe)
@@ -193,16 +166,13 @@ impl Control {
             Decision::Nothing
         };
         self.obey(decision);
-        self.rest();
+        self.state.rest();
         decision
     }
 
     // A clock that is heard.
     fn clock(&mut self, s: Sample) -> Decision
-        ensures state { self.new.state ≡ (clocked self.old.setup s self.old.state.phase self.old.state).state }
-        ensures decision { result ≡ (clocked self.old.setup s self.old.state.phase self.old.state).decision }
-        ensures fits { DecisionFits self.old.setup.part result }
-        ensures setup { self.new.setup ≡ self.old.setup }
+        ensures { Turns self.old self.new result (clocked self.old.setup s self.old.state.phase self.old.state) }
     {
         match self.state.phase {
             Phase::Waiting if s.di => {
@@ -214,9 +184,12 @@ impl Control {
                 };
                 Decision::Start { width }
             }
-            Phase::Taking { width, count, bits } => self.append(s, width, count, bits),
+            Phase::Taking { width, count, bits } => self.append(
+                s,
+                self.incoming(width, count, bits),
+            ),
             Phase::Reading { width, cell, next } => {
-                self.state.phase = read_on(self.setup.part, width, cell, next);
+                self.state.phase = self.read_on(width, cell, next);
                 Decision::Data { width, cell, next }
             }
             Phase::Over if s.di => {
@@ -229,10 +202,7 @@ impl Control {
 
     // Rules 2 to 4, in this order.
     fn decide(&mut self, s: Sample) -> Decision
-        ensures state { self.new.state ≡ (turned self.old.setup s self.old.state).state }
-        ensures decision { result ≡ (turned self.old.setup s self.old.state).decision }
-        ensures fits { DecisionFits self.old.setup.part result }
-        ensures setup { self.new.setup ≡ self.old.setup }
+        ensures { Turns self.old self.new result (turned self.old.setup s self.old.state) }
     {
         if !s.cs {
             self.deselect(s)
@@ -247,22 +217,12 @@ impl Control {
         }
     }
 
-    // A cycle has one sample less to go.
-    fn age(&mut self)
-        ensures state { self.new.state ≡ aged self.old.state }
-        ensures setup { self.new.setup ≡ self.old.setup }
-    {
-        self.state.left = self.state.left.saturating_sub(1);
-    }
-
     // Ages the cycle, decides, and keeps the levels.
+    #[tactic(auto, unfolding(crate::specs::Control::turn))]
     fn advance(&mut self, s: Sample) -> Decision
-        ensures state { self.new.state ≡ (turn self.old.setup self.old.state s).state }
-        ensures decision { result ≡ (turn self.old.setup self.old.state s).decision }
-        ensures fits { DecisionFits self.old.setup.part result }
-        ensures setup { self.new.setup ≡ self.old.setup }
+        ensures { Turns self.old self.new result (turn self.old.setup self.old.state s) }
     {
-        self.age();
+        self.state.age();
         let decision = self.decide(s);
         self.state.cs = s.cs;
         self.state.sk = s.sk;
@@ -281,15 +241,15 @@ impl Control {
     }
 
     // A quiet sample.
+    #[tactic(auto, unfolding(crate::specs::Control::turn))]
     fn pass(&mut self, s: Sample)
         requires { is_quiet s self.old.state ≡ true }
-        ensures turn { turn_to Nothing self.new.state ≡ turn self.old.setup self.old.state s }
-        ensures setup { self.new.setup ≡ self.old.setup }
+        ensures { Turns self.old self.new Nothing (turn self.old.setup self.old.state s) }
     {
         if !s.cs {
-            self.rest();
+            self.state.rest();
         }
-        self.age();
+        self.state.age();
         self.state.cs = s.cs;
         self.state.sk = s.sk;
     }
