@@ -9,7 +9,7 @@ use Rattle.protocol.specs.Inputs.{Checked, inputs}
 use Rattle.protocol.specs.Lists.{Adds}
 use Rattle.protocol.specs.Parts.{part_numbered, width_by}
 use Rattle.protocol.specs.Refusals.{refusal}
-use Rattle.chips.specs.Control.{bit_of}
+use Rattle.protocol.specs.Samples.{bit_of}
 use Rattle.chips.specs.Pins.{Put}
 use Rattle.wire.specs.Frames.{frame_of}
 

@@ -3,19 +3,18 @@
 
 ghost use Rattle.frame_writer.specs.Written.{written, Writes};
 
-use crate::frame::Frame;
-use crate::inputs::check;
-use crate::samples::Levels;
+use crate::samples::write;
 use protocol::instruction::Instruction;
 use protocol::list::List;
 use protocol::parts::Part;
-use protocol::refusal::{Cause, Refusal};
+use protocol::refusal::Refusal;
+use protocol::sample::Straps;
+use wire::frame::Frame;
 
-mod frame;
-mod inputs;
 mod samples;
 
 // Adds the frame of an instruction for a chip of this part, at these levels of ORG and PE, to the list.
+// The part comes by its number: an enum would ask more of callers.
 // A refusal leaves the list as it was.
 pub fn write_frame(
     part: u8,
@@ -26,14 +25,12 @@ pub fn write_frame(
 ) -> Result<(), Refusal>
     ensures { Writes (written part org pe instruction) samples.old samples.new result }
 {
-    let Some(part) = Part::from_number(part) else {
-        return Err(Refusal {
-            cause: Cause::BadSettings,
-            place: 0,
-        });
-    };
-    let width = part.width(org);
-    check(part, width, instruction)?;
-    let frame = Frame::new(part, width, instruction);
-    Levels { org, pe }.write(samples, frame)
+    let part = Part::try_from(part)?;
+    let organisation = part.organised(part.width(org));
+    organisation.check(instruction)?;
+    write(
+        samples,
+        Straps { org, pe },
+        Frame::new(organisation, instruction),
+    )
 }

@@ -4,7 +4,7 @@ use Rattle.std.proofs.lemmas.Nat.{shr-shr, shr_high, mod_low}
 use Rattle.protocol.proofs.Spans.{span_first}
 use Rattle.std.proofs.lemmas.Bool.Decides.{nat_tests}
 use Rattle.protocol.specs.Instructions.{span_of}
-use Rattle.chips.specs.Control.{bit_of}
+use Rattle.protocol.specs.Samples.{bit_of}
 use Rattle.wire.specs.Frames.{bit_at}
 
 odd_bit : (x : ℕ) → bit_of (eqb (x % 2) 1) ≡ x % 2

@@ -19,7 +19,8 @@ use Rattle.chips.specs.declared.state.Verdict.{Verdict}
 use Rattle.chips.specs.declared.state.Verdict.TheVariants.{CarriedOut, Shut, Protected, WrongCount as WrongCountOf}
 use Rattle.chips.specs.declared.state.Decision.{Decision}
 use Rattle.chips.specs.declared.state.Decision.TheVariants.{Nothing, Start, Address, Data, Instruction, WrongCount}
-use Rattle.chips.specs.Control.{Turn, turn_to, turn, turned, aged, is_clock_edition, is_busy_rise, is_clock, bit_of}
+use Rattle.protocol.specs.Samples.{bit_of}
+use Rattle.chips.specs.Control.{Turn, turn_to, turn, turned, aged, is_clock_edition, is_busy_rise, is_clock}
 use Rattle.chips.specs.Control.{instruction_at, ending, ended, clocked, appended, taken, read_on}
 use Rattle.chips.specs.Fits.{PhaseFits, DecisionFits}
 use Rattle.chips.specs.Fitting.{are_bytes}

@@ -7,3 +7,4 @@ pub mod Polls
 pub mod Keeping
 pub mod Hears
 pub mod Cells
+pub mod Whole

@@ -12,7 +12,8 @@ use Rattle.protocol.specs.Instructions.{length_of, kind_at, is_read}
 use Rattle.chips.specs.declared.state.Phase.{Phase}
 use Rattle.chips.specs.declared.state.Phase.TheVariants.{Waiting, Taking}
 use Rattle.chips.specs.declared.state.State.{State}
-use Rattle.chips.specs.Control.{Turn, bit_of, is_clock_edition, taken, appended, turn, kept}
+use Rattle.protocol.specs.Samples.{bit_of}
+use Rattle.chips.specs.Control.{Turn, is_clock_edition, taken, appended, turn, kept}
 use Rattle.chips.specs.Machine.{written, out_of}
 use Rattle.chips.specs.Pins.{Pins, Put, put, sample_of, put_on}
 use Rattle.chips.proofs.Lengths.{least_length}

@@ -1,4 +1,5 @@
 pub mod Frames
+pub mod Fields
 pub mod Runs
 pub mod Polling
 pub mod Hearing
