@@ -1,10 +1,11 @@
 -- What the definitions of the form give, one record after the other.
-use Rattle.std.proofs.Common.{◌≡◌, ℕ, zero, suc, ◌+◌, ◌-◌, ◌≤◌, Bool, true, false, cond, ◌&&◌, eqb, leb, List, ◌++◌, length, take, drop, Ok, Err, Result, sym, refl, ap, ◌∙◌, arith, length-drop}
-use Rattle.std.proofs.lemmas.List.{take_rest, length-take-le, length-append}
-use Rattle.std.proofs.lemmas.Bool.{and_parts, leb-true, lt-leb, ltb-false, eq-eqb, ne_eqb}
+use Rattle.std.proofs.Common.{◌≡◌, ℕ, zero, suc, ◌+◌, ◌-◌, ◌≤◌, Bool, true, false, cond, ◌&&◌, eqb, leb, List, [], ◌++◌, length, take, drop, Ok, Err, Result, sym, refl, ap, ◌∙◌, arith, length-drop}
+use Rattle.std.proofs.lemmas.List.{append-nil, take_rest, length-take-le, length-append}
+use Rattle.std.proofs.lemmas.Bool.{and_parts, leb-true, lt-leb, ltb-false}
 use Rattle.protocol.specs.declared.refusal.Refusal.{Refusal}
 use Rattle.protocol.specs.declared.settings.Settings.{Settings}
 use Rattle.trace_file.specs.Form.{Rest, bad_form, bind, marked, behind, settings_of, count_of, record_of, samples_up_to, samples_of, contents_of, too_long, trace_of}
+use Rattle.trace_file.specs.Steps.{samples_left}
 
 bind_ok : {A B : Type 0} (r : Result A Refusal) (next : A → Result B Refusal) (y : B) → Ok y ≡ bind r next → (x : A) × (Ok x ≡ r) × (Ok y ≡ next x)
 bind_ok (Ok x) next y h = (x, refl, h)
@@ -74,30 +75,23 @@ one_record rest =
     (λ (r : Result (List ℕ) Refusal). cond (eqb (length q.1.bytes) 0) (Ok q.0) (bind r (λ more. Ok (q.0 ++ more))))
     (any_bound (length rest.bytes) (length q.1.bytes) q.1 (omega arith) (omega arith)))
 
-module _ (rest next : Rest) (samples : List ℕ) (e : Ok (samples, next) ≡ record_of rest) where
-  at_record : samples_of rest ≡ joined_by samples_of (samples, next)
-  at_record = one_record rest ∙ ap (λ (r : Result (List ℕ × Rest) Refusal). bind r (joined_by samples_of)) (sym e)
+-- samples in front of an answer
+abbrev pub joined : List ℕ → Result (List ℕ) Refusal → Result (List ℕ) Refusal
+joined done r = bind r (λ more. Ok (done ++ more))
 
-  -- the file ends behind the record
-  pub samples_last : length next.bytes ≡ 0 → samples_of rest ≡ Ok samples
-  samples_last h = at_record ∙ rw (eq-eqb (length next.bytes) 0 h)
+joined_or_last : (b : Bool) (samples : List ℕ) (r : Result (List ℕ) Refusal) → cond b (Ok samples) (joined samples r) ≡ joined samples (cond b (Ok []) r)
+joined_or_last true samples r = ap Ok (sym (append-nil samples))
+joined_or_last false samples r = refl
 
-  -- another record follows
-  pub samples_more : (length next.bytes ≡ 0 → ⊥) → samples_of rest ≡ bind (samples_of next) (λ more. Ok (samples ++ more))
-  samples_more h = at_record ∙ rw (ne_eqb (length next.bytes) 0 h)
+-- where the first record stands
+pub samples_joined : (rest next : Rest) (samples : List ℕ) → Ok (samples, next) ≡ record_of rest → samples_of rest ≡ joined samples (samples_left next)
+samples_joined rest next samples e =
+    one_record rest ∙ ap (λ (r : Result (List ℕ × Rest) Refusal). bind r (joined_by samples_of)) (sym e)
+    ∙ joined_or_last (eqb (length next.bytes) 0) samples (samples_of next)
 
--- a record that does not stand
+-- where it does not stand
 pub samples_bad : (rest : Rest) (refused : Refusal) → Err refused ≡ record_of rest → samples_of rest ≡ Err refused
 samples_bad rest refused e = one_record rest ∙ ap (λ (r : Result (List ℕ × Rest) Refusal). bind r (joined_by samples_of)) (sym e)
-
--- the trace of a file, by its length
-pub trace_too_long : (file : List ℕ) → too_long file ≡ true → trace_of file ≡ Err (bad_form 65536)
-unfolding trace_of
-trace_too_long file h = rw h
-
-pub trace_contents : (file : List ℕ) → too_long file ≡ false → trace_of file ≡ contents_of file
-unfolding trace_of
-trace_contents file h = rw h
 
 -- There are never more samples than bytes.
 joined-within :

@@ -1,6 +1,6 @@
 //! The settings record, and what follows it.
 ghost use Rattle.std.specs.Prelude.{◌≡◌, ◌≤◌, length};
-ghost use Rattle.trace_file.specs.Form.{bad_form, settings_of, contents_of, Takes};
+ghost use Rattle.trace_file.specs.Form.{settings_of, contents_of, Takes};
 ghost use Rattle.trace_file.specs.Steps.{settings_read};
 
 use crate::records::Records;
@@ -11,18 +11,9 @@ use protocol::settings::{Cycles, Settings};
 // The bytes of a settings record.
 const SETTINGS: usize = 10;
 
-// The refusal of a record that is bad or missing.
-pub(crate) fn bad_form(place: usize) -> Refusal
-    ensures { result ≡ bad_form place }
-{
-    Refusal {
-        cause: Cause::FileForm,
-        place,
-    }
-}
-
-// The settings record that begins a file, and the sample records behind it.
+// The settings record that begins a file, each byte named by one pattern, and the sample records behind it.
 fn take_settings(file: &[u8]) -> Result<(Settings, Records), Refusal>
+    requires { length file.now ≤ 65536 }
     ensures { settings_read result ≡ settings_of file.now }
 {
     match file {
@@ -55,22 +46,23 @@ fn take_settings(file: &[u8]) -> Result<(Settings, Records), Refusal>
             };
             Ok((settings, records))
         }
-        _ => Err(bad_form(0)),
+        _ => Err(Cause::FileForm.into()),
     }
 }
 
-// The settings, once every record has its form and the list has all samples.
+// The settings, once there is a record, every record has its form and the list has all samples.
+#[tactic(auto, unfolding(crate::specs::Form::samples_up_to))]
 pub(crate) fn take_contents(file: &[u8], samples: &mut List<u8>) -> Result<Settings, Refusal>
     requires { length file.now ≤ 65536 }
     ensures { Takes (contents_of file.now) samples.old samples.new result }
 {
     let (settings, records) = take_settings(file)?;
+    if records.bytes.is_empty() {
+        return Err(Cause::FileForm.at(records.place));
+    }
     let count = records.count_samples()?;
     if count > samples.room() - samples.len() {
-        return Err(Refusal {
-            cause: Cause::NoRoom,
-            place: 0,
-        });
+        return Err(Cause::NoRoom.into());
     }
     records.add_samples(samples)?;
     Ok(settings)
