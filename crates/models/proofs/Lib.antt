@@ -1,3 +1,2 @@
-pub mod Small
 pub mod Within
-pub mod Runs
+pub mod Small

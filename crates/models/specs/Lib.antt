@@ -1,3 +1,5 @@
+pub mod Sizes
 pub mod Powered
 pub mod Meaning
+pub mod Rewriting
 pub mod Traced

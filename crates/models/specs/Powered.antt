@@ -3,8 +3,10 @@ use Rattle.std.specs.Prelude.{ℕ, true, false, cond, List, length, Ok, Err, Res
 use Rattle.protocol.specs.declared.parts.Part.TheVariants.{C46}
 use Rattle.protocol.specs.declared.refusal.Cause.TheVariants.{MemorySize}
 use Rattle.protocol.specs.declared.refusal.Refusal.{Refusal}
+use Rattle.protocol.specs.declared.sample.Straps.{Straps}
 use Rattle.protocol.specs.declared.settings.Cycles.{Cycles}
-use Rattle.protocol.specs.declared.settings.Edition.TheVariants.{Fall}
+use Rattle.protocol.specs.declared.settings.Edition.{Edition}
+use Rattle.protocol.specs.declared.settings.Edition.TheVariants.{Fall, Clock}
 use Rattle.protocol.specs.declared.settings.Settings.{Settings}
 use Rattle.protocol.specs.declared.settings.Setup.{Setup}
 use Rattle.protocol.specs.Chosen.{setup_of}
@@ -12,7 +14,6 @@ use Rattle.protocol.specs.Parts.{bytes_of}
 use Rattle.protocol.specs.Refusals.{refusal}
 use Rattle.chips.specs.Machine.{fresh_machine}
 use Rattle.chips.specs.Pins.{Pins, org_at, pe_at}
-use Rattle.models.specs.declared.model.Straps.{Straps}
 
 -- The check: the chip must exist, then the memory must have its size.
 abbrev pub sized : Result Setup Refusal → ℕ → Result Setup Refusal
@@ -49,9 +50,17 @@ powered_by (Err e) straps bytes = blank_pins bytes
 abbrev pub powered : Settings → Straps → List ℕ → Pins
 powered settings straps bytes = powered_by (fitted settings (length bytes)) straps bytes
 
+abbrev pub edition_number : Edition → ℕ
+edition_number Fall = 0
+edition_number Clock = 1
+
+-- The model of an edition.
+abbrev pub settings_in : Edition → ℕ → Cycles → Settings
+settings_in edition part cycles = record { part = part; edition = edition_number edition; cycles = cycles }
+
 -- the two models
 abbrev pub in_fall : ℕ → Cycles → Settings
-in_fall part cycles = record { part = part; edition = 0; cycles = cycles }
+in_fall = settings_in Fall
 
 abbrev pub in_clock : ℕ → Cycles → Settings
-in_clock part cycles = record { part = part; edition = 1; cycles = cycles }
+in_clock = settings_in Clock

@@ -1,18 +1,20 @@
 -- What the trace call answers, and what chip and buffer then are.
-use Rattle.std.specs.Prelude.{ℕ, cond, List, length, Ok, Err, Result, ◌==◌, nat_lt}
-use Rattle.protocol.specs.declared.refusal.Cause.TheVariants.{HighSample, BufferLength, BlankChip}
+use Rattle.std.specs.Prelude.{ℕ, cond, List, length, Ok, Err, Result, ◌==◌}
+use Rattle.protocol.specs.declared.refusal.Cause.TheVariants.{BufferLength, BlankChip}
 use Rattle.protocol.specs.declared.refusal.Refusal.{Refusal}
-use Rattle.protocol.specs.Refusals.{refusal}
-use Rattle.protocol.specs.Samples.{high_at}
+use Rattle.protocol.specs.Inputs.{Checked}
+use Rattle.protocol.specs.Refusals.{and_then, refusal}
+use Rattle.protocol.specs.Samples.{samples_checked}
 use Rattle.chips.specs.Machine.{run_on, outs}
 use Rattle.chips.specs.Pins.{Pins}
 
--- A blank, then a sample above 31, then a buffer of another length.
-abbrev pub trace_answer : Pins → List ℕ → ℕ → Result (Unit {0}) Refusal
-trace_answer p samples size =
-    cond p.blank (Err (refusal BlankChip 0))
-    (cond (nat_lt (high_at samples) (length samples)) (Err (refusal HighSample (high_at samples)))
-    (cond (size == length samples) (Ok tt) (Err (refusal BufferLength 0))))
+-- A sample above 31, then a buffer of another length.
+abbrev pub trace_checked : List ℕ → ℕ → Checked
+trace_checked samples size = and_then (samples_checked samples) (cond (size == length samples) (Ok tt) (Err (refusal BufferLength 0)))
+
+-- Before these, a blank.
+abbrev pub trace_answer : Pins → List ℕ → ℕ → Checked
+trace_answer p samples size = cond p.blank (Err (refusal BlankChip 0)) (trace_checked samples size)
 
 -- the straps stay as they are: each sample brings its own levels
 abbrev pub trace_pins : Result (Unit {0}) Refusal → Pins → List ℕ → Pins

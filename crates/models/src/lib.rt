@@ -1,5 +1,7 @@
 //! Models of the two editions, over the caller's memory.
 #![tactic(auto)]
 
-mod bytes;
+mod cells;
+mod live;
 pub mod model;
+mod word;

@@ -1,10 +1,17 @@
 //! A model on its pins.
-ghost use Rattle.std.specs.Prelude.{ℕ};
+ghost use Rattle.std.specs.Prelude.{◌≡◌, ℕ, true};
+ghost use Rattle.chips.specs.Fitting.{are_bytes};
 ghost use Rattle.models.specs.Meaning.{pins_of};
 
+use crate::cells::Cells;
 use crate::model::Model;
 use chips::chip::Chip;
-use protocol::sample::Sample;
+
+// Every byte is below 256: the type says so, of a slice that is passed.
+#[tactic(auto, using(crate::proofs::Small::bytes_small))]
+fn know_bytes(memory: &[u8])
+    ensures { are_bytes memory.now ≡ true }
+{}
 
 impl Chip for Model<'_> {
     ghost meaning = { pins_of };
@@ -17,26 +24,29 @@ impl Chip for Model<'_> {
     ghost next = { λ lender _ _. lender };
 
     fn facts(&self) -> (u8, u8, u8) {
-        if self.blank {
-            return (0, 0, 0);
+        know_bytes(self.memory);
+        match &self.live {
+            None => (0, 0, 0),
+            Some(live) => (
+                live.control.setup().part.row().number,
+                live.straps.org as u8,
+                live.straps.pe as u8,
+            ),
         }
-        (
-            self.control.setup().part.row().number,
-            self.org as u8,
-            self.pe as u8,
-        )
     }
 
+    #[tactic(auto, unfolding(chips::specs::Pins::put_on))]
     fn put(&mut self, cs: bool, sk: bool, di: bool) -> u8 {
-        if self.blank {
-            return 2;
+        match &mut self.live {
+            None => 2,
+            Some(live) => {
+                let sample = live.straps.sample(cs, sk, di);
+                let memory = &mut *self.memory;
+                let part = live.control.setup().part;
+                let mut cells = Cells { memory, part };
+                live.out = cells.advance(&mut live.control, live.out, sample);
+                live.out
+            }
         }
-        self.sample(Sample {
-            cs,
-            sk,
-            di,
-            org: self.org,
-            pe: self.pe,
-        })
     }
 }
