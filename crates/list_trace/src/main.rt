@@ -4,7 +4,7 @@
 use listing::file::listing;
 use std::io::Read;
 
-// One byte more than a trace file may have.
+// One byte more than a trace file may have. `replay_trace` reads its input so too: a crate for two lines would be longer.
 const ENOUGH: u64 = 65537;
 
 fn run(rt: &HostRuntime) -> anyhow::Result<()> {

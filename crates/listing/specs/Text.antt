@@ -1,12 +1,11 @@
 -- The text of a listing.
 use Rattle.std.specs.Prelude.{ℕ, List, [], ◌∷◌, ◌++◌, length, Some, None, Ok, Err, codes, decimal, Option, Result}
 use Rattle.protocol.specs.declared.instruction.Kind.{Kind}
-use Rattle.protocol.specs.declared.instruction.Kind.TheVariants.{Read, Write, Erase, Wen, Wds, Eral, Wrall}
 use Rattle.protocol.specs.declared.refusal.Refusal.{Refusal}
+use Rattle.protocol.specs.Instructions.{kind_word}
 use Rattle.protocol.specs.Parts.{bits_of}
-use Rattle.protocol.specs.Refusals.{number_of}
-use Rattle.chips.specs.declared.state.Verdict.{Verdict}
-use Rattle.chips.specs.declared.state.Verdict.TheVariants.{CarriedOut, Shut, Protected, WrongCount}
+use Rattle.protocol.specs.Refusals.{refusal_text}
+use Rattle.chips.specs.Verdicts.{verdict_number}
 use Rattle.traces.specs.declared.entry.Entry.{Entry}
 
 -- an absent field is "-"
@@ -15,29 +14,18 @@ field_text (Some n) = decimal n
 field_text None = codes "-"
 
 abbrev pub kind_text : Option Kind → List ℕ
-kind_text (Some Read) = codes "READ"
-kind_text (Some Write) = codes "WRITE"
-kind_text (Some Erase) = codes "ERASE"
-kind_text (Some Wen) = codes "WEN"
-kind_text (Some Wds) = codes "WDS"
-kind_text (Some Eral) = codes "ERAL"
-kind_text (Some Wrall) = codes "WRALL"
+kind_text (Some kind) = kind_word kind
 kind_text None = codes "BAD"
 
-abbrev pub verdict_number : Verdict → ℕ
-verdict_number CarriedOut = 0
-verdict_number Shut = 1
-verdict_number Protected = 2
-verdict_number WrongCount = 3
-
 -- Words and numbers stand one space apart.
-abbrev pub end_text : Entry → List ℕ
-end_text e = decimal e.first ++ (codes " " ++ (decimal e.last ++ (codes " " ++ decimal (verdict_number e.verdict))))
+abbrev pub fields_text : Entry → List ℕ
+fields_text e =
+    field_text e.address
+    ++ (codes " " ++ (field_text e.«data» ++ (codes " " ++ (decimal (bits_of e.width) ++ (codes " " ++ (decimal e.first
+    ++ (codes " " ++ (decimal e.last ++ (codes " " ++ decimal (verdict_number e.verdict))))))))))
 
 abbrev pub line_text : Entry → List ℕ
-line_text e =
-    kind_text e.kind
-    ++ (codes " " ++ (field_text e.address ++ (codes " " ++ (field_text e.«data» ++ (codes " " ++ (decimal (bits_of e.width) ++ (codes " " ++ end_text e)))))))
+line_text e = kind_text e.kind ++ (codes " " ++ fields_text e)
 
 -- every line has its end
 abbrev pub lines_text : List Entry → List ℕ
@@ -49,7 +37,7 @@ header_text = codes "kind address data width first last verdict\n"
 
 abbrev pub last_text : ℕ → Result (Unit {0}) Refusal → List ℕ
 last_text count (Ok _) = codes "end " ++ (decimal count ++ codes "\n")
-last_text count (Err e) = codes "refused " ++ (decimal (number_of e.cause) ++ (codes " at " ++ (decimal e.place ++ codes "\n")))
+last_text count (Err e) = refusal_text e ++ codes "\n"
 
 -- Header, a line for each entry, and how it ended.
 unfoldable pub listing_text : List Entry → Result (Unit {0}) Refusal → List ℕ

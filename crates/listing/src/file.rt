@@ -2,13 +2,10 @@
 ghost use Rattle.std.specs.Prelude.{◌≡◌, length, IfOk, string_bytes};
 ghost use Rattle.protocol.specs.Lists.{items, room};
 ghost use Rattle.listing.specs.Outcome.{outcome_of};
-ghost use Rattle.listing.specs.Text.{listing_text};
-ghost use Rattle.listing.specs.Listed.{Lists};
+ghost use Rattle.listing.specs.Listed.{file_text, Lists};
 
 use crate::lines::text_of;
-use chips::state::Verdict;
 use protocol::list::List;
-use protocol::parts::Width;
 use protocol::refusal::Refusal;
 use std::alloc::{AllocError, Global};
 use trace_file::{LIMIT, take_trace};
@@ -18,18 +15,8 @@ use traces::reader::read_trace;
 // How many entries a listing holds.
 pub const ENTRIES: usize = 1024;
 
-// What a place for an entry holds before one stands there.
-pub const NO_ENTRY: Entry = Entry {
-    kind: None,
-    address: None,
-    data: None,
-    width: Width::Sixteen,
-    first: 0,
-    last: 0,
-    verdict: Verdict::WrongCount,
-};
-
 // The entries of a file, into an empty list.
+#[tactic(auto, using(crate::proofs::Files::refused, crate::proofs::Files::given, crate::proofs::Files::file_comes, crate::proofs::Files::file_refused))]
 fn list_entries(
     file: &[u8],
     samples: &mut List<u8>,
@@ -75,13 +62,13 @@ pub fn list_file(heap: Global, file: &[u8]) -> Result<FileListing, AllocError>
     ensures { IfOk result (λ l. Lists file.now (string_bytes l.text) l.answer) }
 {
     let mut samples = vec![in heap; 0u8; LIMIT]?;
-    let mut entries = vec![in heap; NO_ENTRY; ENTRIES]?;
+    let mut entries = vec![in heap; Entry::NONE; ENTRIES]?;
     list_in(heap, file, &mut samples, &mut entries)
 }
 
 // The whole text of a listing.
 pub fn listing(heap: Global, file: &[u8]) -> Result<String, AllocError>
-    ensures { IfOk result (λ s. string_bytes s ≡ listing_text (outcome_of 1024 file.now).entries (outcome_of 1024 file.now).answer) }
+    ensures { IfOk result (λ s. string_bytes s ≡ file_text file.now) }
 {
     let listing = list_file(heap, file)?;
     Ok(listing.text)

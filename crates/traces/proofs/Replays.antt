@@ -10,11 +10,14 @@ use Rattle.protocol.specs.Refusals.{refusal}
 use Rattle.protocol.specs.Samples.{high_at}
 use Rattle.chips.specs.Machine.{fresh_machine, run_on, outs}
 use Rattle.chips.specs.Pins.{Pins}
-use Rattle.models.specs.declared.model.Straps.{Straps}
+use Rattle.protocol.specs.declared.sample.Straps.{Straps}
 use Rattle.models.specs.Powered.{sized, fitted, live_pins, powered_by, powered}
 use Rattle.models.specs.Traced.{trace_answer, trace_pins, trace_outs}
-use Rattle.traces.specs.Reading.{readable}
-use Rattle.traces.specs.Replaying.{replayable}
+use Rattle.protocol.specs.declared.list.List.{List as Held}
+use Rattle.traces.specs.declared.entry.Entry.{Entry}
+use Rattle.traces.specs.Reading.{readable, Listed, WasRead}
+use Rattle.traces.specs.Replaying.{replayable, Accounts}
+use Rattle.traces.proofs.Accounts.{account}
 
 -- a test that would have refused did not
 passed-by : {A E : Type 0} (b : Bool) (e : E) (r : Result A E) (x : A) → Ok x ≡ cond b (Err e) r → (b ≡ false) × (r ≡ Ok x)
@@ -58,3 +61,9 @@ module _ (settings : Settings) (setup : Setup) (memory samples buffer : List ℕ
 
     pub levels_are : (out : List ℕ) → out ≡ trace_outs r p samples buffer → out ≡ outs (fresh_machine setup memory) samples
     levels_are out h = h ∙ rw (done, lives)
+
+    pub accounts_are : (l m : Held Entry) (bytes : List ℕ) → WasRead settings samples l m (Ok tt) → bytes ≡ q.machine.bytes → q ≡ trace_pins r p samples →
+        Accounts (replayable settings (length memory) samples (length buffer)) r l m memory bytes
+    accounts_are l m bytes h b t =
+        let read : Listed setup samples l m (Ok tt) = rw reads at h in
+        rw (← e, done) (b ∙ bytes_are t ∙ account setup samples memory l m tt read)

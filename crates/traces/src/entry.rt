@@ -16,3 +16,16 @@ pub struct Entry {
     pub last: usize,
     pub verdict: Verdict,
 }
+
+impl Entry {
+    // What a place for an entry holds before one stands there.
+    pub const NONE: Entry = Entry {
+        kind: None,
+        address: None,
+        data: None,
+        width: Width::Sixteen,
+        first: 0,
+        last: 0,
+        verdict: Verdict::WrongCount,
+    };
+}

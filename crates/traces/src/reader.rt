@@ -6,34 +6,30 @@ use crate::entry::Entry;
 use crate::start_bit::StartBit;
 use chips::control::Control;
 use protocol::list::List;
-use protocol::refusal::{Cause, Refusal};
-use protocol::sample::{Sample, first_high};
+use protocol::refusal::Refusal;
+use protocol::sample::{Sample, check_samples};
 use protocol::settings::{Settings, Setup};
 
 // What stands in the way of reading: a sample above 31, then settings that fit no chip.
+// Settings, samples and list stay arguments of their own: a struct of them would be made for one call and taken apart in it.
 pub(crate) fn check(settings: Settings, samples: &[u8]) -> Result<Setup, Refusal>
     ensures { result ≡ readable settings samples.now }
 {
-    let place = first_high(samples);
-    if place < samples.len() {
-        return Err(Refusal {
-            cause: Cause::HighSample,
-            place,
-        });
-    }
-    settings.check()
+    check_samples(samples)?;
+    Setup::try_from(settings)
 }
 
 // One pass over the samples, from power-up.
+#[tactic(auto, using(crate::proofs::Entering::listed))]
 fn list_entries(setup: Setup, samples: &[u8], entries: &mut List<Entry>) -> Result<(), Refusal>
     ensures { Listed setup samples.now entries.old entries.new result }
 {
     let mut control = Control::new(setup);
-    let mut start = StartBit::none();
+    let mut start = StartBit::NONE;
     for (place, byte) in samples.iter().enumerate() {
-        let decision = control.step(Sample::from_byte(*byte));
+        let decision = control.step(Sample::from(*byte));
         if let Some(entry) = start.enter(place, decision) {
-            entries.push(entry, place)?;
+            entries.push(entry, entry.last)?;
         }
     }
     Ok(())

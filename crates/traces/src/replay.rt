@@ -6,17 +6,11 @@ ghost use Rattle.traces.specs.Replaying.{replayable, bytes_after, levels_after, 
 
 use crate::entry::Entry;
 use crate::reader::read_trace;
-use models::model::{Model, Straps, check};
+use models::model::{Model, check, check_trace};
 use protocol::list::List;
-use protocol::refusal::{Cause, Refusal};
-use protocol::sample::first_high;
+use protocol::refusal::Refusal;
+use protocol::sample::Straps;
 use protocol::settings::{Settings, Setup};
-
-// Every sample brings its own levels, so that the straps do not matter.
-const STRAPS: Straps = Straps {
-    org: true,
-    pe: true,
-};
 
 fn check_replay(
     settings: Settings,
@@ -26,23 +20,12 @@ fn check_replay(
 ) -> Result<Setup, Refusal>
     ensures { result ≡ replayable settings memory samples.now buffer }
 {
-    let place = first_high(samples);
-    if place < samples.len() {
-        return Err(Refusal {
-            cause: Cause::HighSample,
-            place,
-        });
-    }
-    if buffer != samples.len() {
-        return Err(Refusal {
-            cause: Cause::BufferLength,
-            place: 0,
-        });
-    }
+    check_trace(samples, buffer)?;
     check(settings, memory)
 }
 
 // Lists the entries of a trace, and leaves in the memory and the buffer what a chip over that memory makes of it.
+#[tactic(auto, using(crate::proofs::Replays::reads, crate::proofs::Replays::done, crate::proofs::Replays::bytes_are, crate::proofs::Replays::levels_are))]
 pub fn replay(
     settings: Settings,
     memory: &mut [u8],
@@ -55,8 +38,9 @@ pub fn replay(
     ensures levels { levels.new ≡ levels_after (replayable settings (length memory.old) samples.now (length levels.old)) result samples.now memory.old levels.old }
     ensures account { Accounts (replayable settings (length memory.old) samples.now (length levels.old)) result entries.old entries.new memory.old memory.new }
 {
-    let _ = check_replay(settings, memory.len(), samples, levels.len())?;
+    check_replay(settings, memory.len(), samples, levels.len())?;
     read_trace(settings, samples, entries)?;
-    let mut model = Model::new(memory, settings, STRAPS);
+    // Every sample brings its own levels, so that the straps do not matter.
+    let mut model = Model::new(memory, settings, Straps::HIGH);
     model.run_trace(samples, levels)
 }
