@@ -1,4 +1,4 @@
 pub mod Tells
-pub mod Turns
+pub mod Steps
 pub mod Framing
 pub mod Judging

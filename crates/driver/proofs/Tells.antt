@@ -1,21 +1,17 @@
 -- Laws of telling a chip samples.
-use Rattle.std.proofs.Common.{◌≡◌, ℕ, zero, suc, true, false, List, [], ◌∷◌, ◌++◌, refl, ap, ◌∙◌}
-use Rattle.chips.specs.Pins.{Pins, Put, put}
+use Rattle.std.proofs.Common.{◌≡◌, ℕ, zero, suc, true, false, cond, List, [], ◌∷◌, ◌++◌, refl, ◌∙◌}
+use Rattle.chips.specs.Machine.{step}
+use Rattle.chips.specs.Pins.{Pins, Put, put, put_on, sample_of}
 use Rattle.chips.specs.Seen.{Seen, stepped}
 use Rattle.wire.specs.Frames.{bit_at, clocks, opening}
 use Rattle.wire.specs.Runs.{run}
-use Rattle.wire.proofs.Keeping.{run_keeps_blank}
 use Rattle.driver.specs.Sent.{told}
 
+put-setup : (p : Pins) (s : Put) → (put_on p s).machine.setup ≡ p.machine.setup
+unfolding put_on
+put-setup p s = elim p.blank as (λ b. (cond b p.machine (step p.machine (sample_of p s))).setup ≡ p.machine.setup) [ true ↦ refl | false ↦ refl ]
+
 module _ {V : Type 0} (next : V → Pins → Put → V) where
-  pub told_none : (x : Seen V) → told next x [] ≡ x
-  unfolding told
-  told_none x = refl
-
-  pub told-one : (x : Seen V) {y : Seen V} (s : Put) → y ≡ stepped next x s → y ≡ told next x (s ∷ [])
-  unfolding told
-  told-one x s e = e
-
   pub told-append : (x : Seen V) (xs ys : List Put) → told next x (xs ++ ys) ≡ told next (told next x xs) ys
   unfolding told
   told-append x [] ys = refl
@@ -38,5 +34,15 @@ module _ {V : Type 0} (next : V → Pins → Put → V) where
   told-pins x [] = refl
   told-pins x (s ∷ ss) = told-pins (stepped next x s) ss
 
-  pub told_blank : (x : Seen V) {y : Seen V} (ss : List Put) → y ≡ told next x ss → y.pins.blank ≡ x.pins.blank
-  told_blank x ss e = ap (λ (v : Seen V). v.pins.blank) e ∙ ap (λ (p : Pins). p.blank) (told-pins x ss) ∙ run_keeps_blank x.pins ss
+  -- samples leave the part and the levels of ORG and PE
+  pub told-setup : (x : Seen V) (ss : List Put) → (told next x ss).pins.machine.setup ≡ x.pins.machine.setup
+  unfolding told
+  told-setup x [] = refl
+  told-setup x (s ∷ ss) = told-setup (stepped next x s) ss ∙ put-setup x.pins s
+
+  pub told-org : (x : Seen V) (ss : List Put) → (told next x ss).pins.org ≡ x.pins.org
+  unfolding told put_on
+  told-org x [] = refl
+  told-org x (s ∷ ss) = told-org (stepped next x s) ss
+
+pub ruleset keeps = (told-setup, told-org)

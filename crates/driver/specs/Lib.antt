@@ -5,4 +5,3 @@ pub mod Checks
 pub mod Calls
 pub mod Reads
 pub mod Held
-pub mod Fields

@@ -1,15 +1,14 @@
 //! The driver of one chip.
 mod calls;
 mod checks;
-mod loan;
-mod steps;
+mod chip;
 
 use chips::chip::Chip;
 
-// The chip that it is lent, and the record of what it has done: has it greeted the chip, and does the chip count as open?
+// Its chip, and the record of what it has done: has it greeted the chip, and does the chip count as open?
 #[derive(Drop)]
-pub struct Driver<'a, C: Chip> {
-    chip: &'a mut C,
+pub struct Driver<C: Chip> {
+    chip: C,
     greeted: bool,
     opened: bool,
 }

@@ -1,6 +1,5 @@
 //! The driver, over any chip: it sees only what put and facts promise.
 #![tactic(auto)]
 
-mod code;
 pub mod driver;
 mod signals;

@@ -1,4 +1,4 @@
-use Rattle.std.proofs.Common.{◌≡◌, ◌-◌, ◌*◌, [], ◌++◌, length, take}
+use Rattle.std.proofs.Common.{◌≡◌, ◌*◌, [], take}
 use Rattle.protocol.specs.Parts.{bits_of}
 use Rattle.chips.specs.Seen.{seen}
 use Rattle.wire.specs.Frames.{clocks}
@@ -8,8 +8,7 @@ use Rattle.driver.proofs.signals.hear_words.Given as goal
 
 abbrev pub invariant-loop-word : goal.invariant-loop-word
 invariant-loop-word g l =
-    let m = g.C.Chip.meaning in
-    let x = seen g.C.Chip.view m in
-    let n = length l.initial.words in
-    (words_heard (bits_of l.width) n (m l.initial.chip) ≡ take l.word-index l.words ++ words_heard (bits_of l.width) (n - l.word-index) (m l.chip))
-    × (told g.C.Chip.next (x l.initial.chip) (clocks (n * bits_of l.width) 0 []) ≡ told g.C.Chip.next (x l.chip) (clocks ((n - l.word-index) * bits_of l.width) 0 []))
+    let x = seen g.C.Chip.view g.C.Chip.meaning in
+    let bits = bits_of l.width in
+    (take l.word-index l.words ≡ words_heard bits l.word-index (x l.initial.chip).pins)
+    × (x l.chip ≡ told g.C.Chip.next (x l.initial.chip) (clocks (l.word-index * bits) 0 []))
