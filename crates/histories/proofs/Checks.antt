@@ -4,12 +4,11 @@ use Rattle.std.proofs.lemmas.Bool.{cases_Bool}
 use Rattle.std.proofs.lemmas.Bool.Decides.{nat_tests}
 use Rattle.protocol.specs.declared.instruction.Instruction.{Instruction}
 use Rattle.protocol.specs.declared.instruction.Instruction.TheVariants as instruction
-use Rattle.protocol.specs.declared.instruction.Kind.{Kind}
-use Rattle.protocol.specs.declared.instruction.Kind.TheVariants as kind
 use Rattle.protocol.specs.declared.parts.Part.{Part}
 use Rattle.protocol.specs.declared.parts.Width.{Width}
 use Rattle.protocol.specs.declared.parts.Width.TheVariants.{Eight, Sixteen}
 use Rattle.protocol.specs.declared.refusal.Refusal.{Refusal}
+use Rattle.protocol.specs.Instructions.{address_in, value_in}
 use Rattle.protocol.specs.Parts.{bits_of, ones_of}
 use Rattle.protocol.proofs.Table.{agreed}
 use Rattle.chips.specs.Pins.{Pins}
@@ -19,34 +18,6 @@ use Rattle.histories.specs.declared.call.Call.{Call}
 use Rattle.histories.specs.declared.call.Call.TheVariants.{Greet, Settle, Open, Shut, Read, Run, Write, Erase, Fill, Clear}
 use Rattle.histories.specs.Book.{is_unfinished}
 use Rattle.histories.specs.Alike.{is_programming}
-
--- an instruction's kind, address and value, 0 where it has none
-abbrev pub kind_in : Instruction → Kind
-kind_in (instruction.Read address words) = kind.Read
-kind_in (instruction.Write address value) = kind.Write
-kind_in (instruction.Erase address) = kind.Erase
-kind_in instruction.Wen = kind.Wen
-kind_in instruction.Wds = kind.Wds
-kind_in instruction.Eral = kind.Eral
-kind_in (instruction.Wrall value) = kind.Wrall
-
-abbrev pub address_in : Instruction → ℕ
-address_in (instruction.Read address words) = address
-address_in (instruction.Write address value) = address
-address_in (instruction.Erase address) = address
-address_in instruction.Wen = 0
-address_in instruction.Wds = 0
-address_in instruction.Eral = 0
-address_in (instruction.Wrall value) = 0
-
-abbrev pub value_in : Instruction → ℕ
-value_in (instruction.Read address words) = 0
-value_in (instruction.Write address value) = value
-value_in (instruction.Erase address) = 0
-value_in instruction.Wen = 0
-value_in instruction.Wds = 0
-value_in instruction.Eral = 0
-value_in (instruction.Wrall value) = value
 
 abbrev pub check_of : Call → Pins → Bool → Bool → Checked
 check_of Greet p greeted opened = greetable p

@@ -5,7 +5,7 @@ use Rattle.protocol.specs.declared.instruction.Instruction.{Instruction}
 use Rattle.protocol.specs.declared.instruction.Instruction.TheVariants as instruction
 use Rattle.protocol.specs.declared.refusal.Cause.TheVariants.{Busy, Unfinished}
 use Rattle.protocol.specs.declared.refusal.Refusal.{Refusal}
-use Rattle.protocol.specs.Instructions.{is_read, is_change}
+use Rattle.protocol.specs.Instructions.{is_read, is_change, kind_in, address_in, value_in}
 use Rattle.protocol.specs.Parts.{ones_of}
 use Rattle.protocol.specs.Refusals.{refusal}
 use Rattle.protocol.proofs.Table.{agreed}
@@ -25,7 +25,7 @@ use Rattle.histories.specs.Book.{is_unfinished, is_done, is_accepted, changed_bo
 use Rattle.histories.specs.Alike.{is_programming, was_programming}
 use Rattle.histories.proofs.Cells.{all_cells, set_all, fill_all}
 use Rattle.histories.proofs.Views.{greeted, greets}
-use Rattle.histories.proofs.Checks.{kind_in, address_in, value_in, check_of, Admitted, admitted_finds, changeable_finds, sendable, check_early}
+use Rattle.histories.proofs.Checks.{check_of, Admitted, admitted_finds, changeable_finds, sendable, check_early}
 use Rattle.histories.proofs.Keeping.{call_later}
 use Rattle.histories.proofs.Sending.{Driver, at, polled_ways, rest-placed, ready_at, frame_sent, words_in, fits-resting, words_read, read_sent}
 use Rattle.histories.proofs.Sending.{changed_bytes, change_carried, idle-resting, idle-sent}

@@ -1,6 +1,6 @@
 -- A list of calls, performed in a loop.
 use Rattle.std.proofs.Common.{◌≡◌, ℕ, zero, suc, ◌+◌, ◌-◌, ◌<◌, ◌≤◌, Bool, true, false, List, [], ◌∷◌, ◌++◌, length, get_or, take, drop, Ok, Err, Result, sym, refl, ap, ◌∙◌, append_assoc, arith, leb-true}
-use Rattle.std.proofs.lemmas.List.{append-nil, at_drop_more, take_more, take_all}
+use Rattle.std.proofs.lemmas.List.{append-nil, take_more, take_all}
 use Rattle.std.proofs.lemmas.Bool.{and_parts}
 use Rattle.protocol.specs.declared.list.List.{List as Held}
 use Rattle.protocol.specs.declared.refusal.Refusal.{Refusal}
@@ -14,6 +14,9 @@ use Rattle.driver.specs.Outcome.{State, state, outcome, then}
 use Rattle.histories.specs.declared.call.Call.{Call}
 use Rattle.histories.specs.declared.call.Call.TheVariants.{Greet, Settle, Open, Shut, Read, Run, Write, Erase, Fill, Clear}
 use Rattle.histories.specs.Events.{Answer, Event, event, performed, events_from, end_from}
+use Rattle.histories.proofs.Views.{seen_by, events_by}
+use Rattle.histories.proofs.Keeping.{end_keeps}
+use Rattle.histories.proofs.Performs.{wanted_on}
 use Rattle.histories.specs.Performing.{wanted_by, words_wanted, answers_in, words_in, has_room, PerformedOne, Performed, Performs}
 
 -- one event more
@@ -86,12 +89,8 @@ module _ {V : Type 0} (next : V → Pins → Put → V) where
 
   module _ (calls : List Call) (s t : State V) (answers answers' : Held Answer) (words words' : Held ℕ) (i : ℕ)
       (g : Going calls s t answers answers' words words' i) where
-    wanted-more : (d : Call) → i < length calls → words_wanted (drop i calls) ≡ wanted_by (get_or calls i d) + words_wanted (drop (i + 1) calls)
-    unfolding words_wanted
-    wanted-more d h = at_drop_more words_wanted calls i d h
-
     pub fits : (d : Call) → i < length calls → words'.count + wanted_by (get_or calls i d) ≤ room words'
-    fits d h = omega (arith, wanted-more d h, g.words_fit)
+    fits d h = omega (arith, wanted_on calls i d h, g.words_fit)
 
     pub more : (d : Call) (u : State V) (answers'' : Held Answer) (words'' : Held ℕ) (r : Answer) → i < length calls →
         PerformedOne next (get_or calls i d) t u words' words'' r → Added answers' (r ∷ []) answers'' → Going calls s u answers answers'' words words'' (i + 1)
@@ -114,16 +113,40 @@ module _ {V : Type 0} (next : V → Pins → Put → V) where
                 handed = rw (e, ws) (added_twice words words' words'' _ _ p.handed one.handed);
               };
           answers_fit = omega (arith, g.answers_fit, a.counts, a.same_room);
-          words_fit = omega (arith, wanted-more d h, g.words_fit, one.handed.counts, one.handed.same_room, words_most x t);
+          words_fit = omega (arith, wanted_on calls i d h, g.words_fit, one.handed.counts, one.handed.same_room, words_most x t);
         }
 
     pub done : length calls ≤ i → Performed next calls s t answers answers' words words'
     done h = rw (take_all i calls h) at g.performed
 
-  -- a whole list, by a new driver
-  pub performs : (calls : List Call) (chip chip' : Seen V) (s t : State V) (answers answers' : Held Answer) (words words' : Held ℕ) (fits : Bool)
-      (r : Result (Unit {0}) Refusal) → true ≡ fits → s ≡ state false false chip → r ≡ Ok tt → Performed next calls s t answers answers' words words' →
-      chip' ≡ t.chip → Performs next fits calls chip chip' answers answers' words words' r
-  performs calls chip chip' s t answers answers' words words' fits r f e d p c =
-      rw (← f)
-      (d, c ∙ ap (λ (u : State V). u.chip) (p.ends ∙ ap (end_from next calls) e), rw e at p.answered, rw e at p.handed)
+-- a chip that was lent, and what it keeps: what it kept, and whose it is
+abbrev pub lent : {V L : Type 0} → (V → Pins → Put → V) → L × V → Pins → Put → L × V
+lent next v p x = (v.0, next v.1 p x)
+
+abbrev pub lent_chip : {V L : Type 0} → L → Seen V → Seen (L × V)
+lent_chip name x = record { view = (name, x.view); pins = x.pins }
+
+abbrev pub own_view : {V L : Type 0} → L × V → V
+own_view v = v.1
+
+-- it stays whose it is
+pub lender_kept : {V L : Type 0} (next : V → Pins → Put → V) (calls : List Call) (s t : State (L × V)) → t ≡ end_from (lent next) calls s →
+    t.chip.view.0 ≡ s.chip.view.0
+lender_kept {V = V} {L = L} next calls s t e =
+    ap (λ (u : State (L × V)). u.chip.view.0) e
+    ∙ end_keeps (lent next) (λ x. x.view.0 ≡ s.chip.view.0) (λ x y h. h) calls s refl
+
+-- a whole list, by a new driver on such a chip
+pub performs : {V L : Type 0} (next : V → Pins → Put → V) (calls : List Call) (name : L) (chip chip' : Seen V) (s t : State (L × V))
+    (answers answers' : Held Answer) (words words' : Held ℕ) (fit : Bool) (r : Result (Unit {0}) Refusal) → true ≡ fit →
+    s ≡ state false false (lent_chip name chip) → r ≡ Ok tt → Performed (lent next) calls s t answers answers' words words' →
+    chip' ≡ seen_by own_view t.chip → Performs next fit calls chip chip' answers answers' words words' r
+performs {V = V} {L = L} next calls name chip chip' s t answers answers' words words' fit r f e d p c =
+    let same = events_by {V = L × V} own_view (lent next) next (λ _ _ _. refl) calls (state false false (lent_chip name chip)) in
+    let ends : t ≡ end_from (lent next) calls (state false false (lent_chip name chip)) = p.ends ∙ ap (end_from (lent next) calls) e in
+    rw (← f) (
+      d,
+      c ∙ ap (λ (u : State (L × V)). seen_by own_view u.chip) ends ∙ ap (λ (u : State V). u.chip) same.1,
+      rw (e, same.0) at p.answered,
+      rw (e, same.0) at p.handed,
+    )

@@ -8,7 +8,7 @@ use Rattle.protocol.specs.declared.parts.Part.{Part}
 use Rattle.protocol.specs.declared.parts.Width.{Width}
 use Rattle.protocol.specs.declared.refusal.Cause.{Cause}
 use Rattle.protocol.specs.declared.settings.Edition.{Edition}
-use Rattle.protocol.specs.Instructions.{is_read, is_change, has_data}
+use Rattle.protocol.specs.Instructions.{is_read, is_change, has_data, kind_in, address_in, value_in}
 use Rattle.protocol.specs.Parts.{bits_of}
 use Rattle.protocol.specs.Refusals.{refusal}
 use Rattle.chips.specs.declared.state.Verdict.TheVariants.{CarriedOut}
@@ -24,12 +24,11 @@ use Rattle.wire.specs.Runs.{run}
 use Rattle.wire.proofs.Carrying.{frame_carries_out, read_opens_cell}
 use Rattle.wire.proofs.Hears.{heard_is_run, read_answers_cells, read_rests}
 use Rattle.wire.proofs.Polls.{poll_rests, poll_ready_iff}
+use Rattle.driver.proofs.Tells.{told-pins}
 use Rattle.driver.specs.Checks.{cells_on}
 use Rattle.driver.specs.Outcome.{State, Outcome, state, outcome, sent}
 use Rattle.driver.specs.Calls as calls
 use Rattle.histories.specs.Events.{unseen, bare_chip}
-use Rattle.histories.proofs.Views.{told-run}
-use Rattle.histories.proofs.Checks.{kind_in, address_in, value_in}
 
 abbrev pub Driver : Type 0
 Driver = State (Unit {0})
@@ -39,7 +38,7 @@ abbrev pub at : Driver → Pins → Driver
 at s p = state s.greeted s.opened (bare_chip p)
 
 sent-at : (xs : List Put) (s : Driver) → sent unseen xs s ≡ at s (run s.chip.pins xs)
-sent-at xs s = ap (at s) (told-run unseen s.chip xs)
+sent-at xs s = ap (at s) (told-pins unseen s.chip xs)
 
 -- How polling ends, from rest.
 pub polled_ways : (P : Outcome (Unit {0}) (Unit {0}) → Type 0) (cause : Cause) (s : Driver) → Rest s.chip.pins →

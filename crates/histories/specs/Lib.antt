@@ -2,4 +2,5 @@ pub mod Events
 pub mod Book
 pub mod Alike
 pub mod Performing
+pub mod Texts
 pub mod Laws

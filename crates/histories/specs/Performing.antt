@@ -5,8 +5,9 @@ use Rattle.protocol.specs.declared.refusal.Cause.TheVariants.{NoRoom}
 use Rattle.protocol.specs.declared.refusal.Refusal.{Refusal}
 use Rattle.protocol.specs.Lists.{room, Added}
 use Rattle.protocol.specs.Refusals.{refusal}
+use Rattle.chips.specs.declared.chip.Chip.{Ghosts}
 use Rattle.chips.specs.Pins.{Pins, Put}
-use Rattle.chips.specs.Seen.{Seen}
+use Rattle.chips.specs.Seen.{Seen, seen}
 use Rattle.driver.specs.Outcome.{State}
 use Rattle.histories.specs.declared.call.Call.{Call}
 use Rattle.histories.specs.declared.call.Call.TheVariants.{Greet, Settle, Open, Shut, Read, Run, Write, Erase, Fill, Clear}
@@ -63,3 +64,8 @@ Performs next true calls chip chip' answers answers' words words' r =
     × Added words (words_in (events_of next calls chip)) words'
 Performs next false calls chip chip' answers answers' words words' r =
     (r ≡ Err (refusal NoRoom 0)) × (chip' ≡ chip) × (answers' ≡ answers) × (words' ≡ words)
+
+-- the same of a chip, with what it promises
+abbrev pub PerformsOn : {C : Type 0} → Ghosts C → List Call → C → C → Held Answer → Held Answer → Held ℕ → Held ℕ → Result (Unit {0}) Refusal → Type 0
+PerformsOn g calls chip chip' answers answers' words words' r =
+    Performs g.next (has_room calls answers words) calls (seen g.view g.meaning chip) (seen g.view g.meaning chip') answers answers' words words' r

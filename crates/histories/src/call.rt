@@ -1,4 +1,5 @@
 //! A call of the driver, as data.
+mod calls;
 
 #[derive(Clone, Copy, Drop, PartialEq, Eq, Debug)]
 pub enum Call {
