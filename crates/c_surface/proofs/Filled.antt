@@ -6,8 +6,7 @@ use Rattle.protocol.specs.declared.list.List.{List as Held}
 use Rattle.protocol.specs.declared.refusal.Refusal.{Refusal}
 use Rattle.protocol.specs.Lists.{items, free, room, Added}
 use Rattle.frame_writer.specs.Written.{Writes}
-use Rattle.c_surface.specs.Answers.{ended}
-use Rattle.c_surface.specs.Filling.{fits, filled_with, frame_buffer, frame_answer}
+use Rattle.c_surface.specs.Filling.{fits, filled_with, frame_buffer, frame_length}
 
 module _ (l m : Held ℕ) (old xs : List ℕ) (none : l.count ≡ 0) (is : l.slice.now ≡ old) where
   counted : Added l xs m → m.count ≡ length xs
@@ -34,13 +33,13 @@ module _ (l m : Held ℕ) (old xs : List ℕ) (none : l.count ≡ 0) (is : l.sli
 module _ (l m : Held ℕ) (old : List ℕ) (none : l.count ≡ 0) (is : l.slice.now ≡ old) where
   -- a frame was written
   pub written_well : (frame : Result (List ℕ) Refusal) → Writes frame l m (Ok tt) →
-      (ended (Ok tt) m.count ≡ frame_answer frame old) × (m.slice.now ≡ frame_buffer frame old)
+      (Ok m.count ≡ frame_length frame old) × (m.slice.now ≡ frame_buffer frame old)
   written_well (Ok bytes) a = (rw (fits_in l m old bytes none is a, counted l m old bytes none is a), fills l m old bytes none is a)
   written_well (Err d) a = let z : ◌≡◌ {A = ℕ} 0 1 = (let h = a.1 in cc) in absurd (omega arith)
 
   -- or refused
   pub written_not : (frame : Result (List ℕ) Refusal) (e : Refusal) → Writes frame l m (Err e) →
-      (ended (Err e) 0 ≡ frame_answer frame old) × (m.slice.now ≡ frame_buffer frame old)
+      (Err e ≡ frame_length frame old) × (m.slice.now ≡ frame_buffer frame old)
   written_not (Ok bytes) e a =
       let f = fits_not l m old bytes none is a.0 in
       (rw (f, a.1), rw f (ap (λ (k : Held ℕ). k.slice.now) a.2 ∙ is))

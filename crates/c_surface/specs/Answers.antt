@@ -14,6 +14,11 @@ abbrev pub ended : Checked → ℕ → Answer
 ended (Ok _) length = record { refusal = 0; place = 0; length = length }
 ended (Err e) length = record { refusal = number_of e.cause; place = e.place; length = length }
 
+-- a length, or a refusal with length 0
+abbrev pub answered : Result ℕ Refusal → Answer
+answered (Ok length) = ended (Ok tt) length
+answered (Err e) = ended (Err e) 0
+
 -- no room for so many bytes
 abbrev pub too_short : ℕ → Answer
 too_short length = ended (Err (refusal NoRoom 0)) length

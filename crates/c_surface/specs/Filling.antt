@@ -2,7 +2,7 @@
 use Rattle.std.specs.Prelude.{◌≡◌, ℕ, Bool, cond, ◌⊎◌, List, ◌++◌, length, drop, Some, None, Ok, Err, Option, Result, ◌==◌, nat_le}
 use Rattle.protocol.specs.declared.instruction.Instruction.{Instruction}
 use Rattle.protocol.specs.declared.instruction.Instruction.TheVariants.{Read, Write, Erase, Wen, Wds, Eral, Wrall}
-use Rattle.protocol.specs.declared.refusal.Cause.TheVariants.{BadSettings}
+use Rattle.protocol.specs.declared.refusal.Cause.TheVariants.{BadSettings, NoRoom}
 use Rattle.protocol.specs.declared.refusal.Refusal.{Refusal}
 use Rattle.protocol.specs.declared.settings.Settings.{Settings}
 use Rattle.protocol.specs.Inputs.{Checked}
@@ -12,7 +12,7 @@ use Rattle.listing.specs.Listed.{listed, file_text}
 use Rattle.listing.specs.Outcome.{Outcome, of_chip}
 use Rattle.frame_writer.specs.Written.{written}
 use Rattle.c_surface.specs.declared.answer.Answer.{Answer}
-use Rattle.c_surface.specs.Answers.{ended, too_short}
+use Rattle.c_surface.specs.Answers.{answered, ended, too_short}
 
 abbrev pub fits : List ℕ → List ℕ → Bool
 fits bytes buffer = nat_le (length bytes) (length buffer)
@@ -41,10 +41,13 @@ abbrev pub frame_buffer : Result (List ℕ) Refusal → List ℕ → List ℕ
 frame_buffer (Ok bytes) buffer = filled_with bytes buffer
 frame_buffer (Err e) buffer = buffer
 
--- the length is that of the frame
+-- the length of the frame, if there is room for it
+abbrev pub frame_length : Result (List ℕ) Refusal → List ℕ → Result ℕ Refusal
+frame_length (Ok bytes) buffer = cond (fits bytes buffer) (Ok (length bytes)) (Err (refusal NoRoom 0))
+frame_length (Err e) buffer = Err e
+
 abbrev pub frame_answer : Result (List ℕ) Refusal → List ℕ → Answer
-frame_answer (Ok bytes) buffer = cond (fits bytes buffer) (ended (Ok tt) (length bytes)) (too_short 0)
-frame_answer (Err e) buffer = ended (Err e) 0
+frame_answer frame buffer = answered (frame_length frame buffer)
 
 -- the length is that of the text, even where it does not fit
 abbrev pub text_answer : Checked → List ℕ → List ℕ → Answer

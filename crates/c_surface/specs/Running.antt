@@ -1,20 +1,15 @@
 -- A trace run on a chip at power-up.
-use Rattle.std.specs.Prelude.{ℕ, cond, List, length, Ok, Err, Result, ◌==◌}
-use Rattle.protocol.specs.declared.refusal.Cause.TheVariants.{BufferLength}
+use Rattle.std.specs.Prelude.{ℕ, List, length, Ok, Err, Result}
 use Rattle.protocol.specs.declared.refusal.Refusal.{Refusal}
 use Rattle.protocol.specs.declared.settings.Settings.{Settings}
 use Rattle.protocol.specs.declared.settings.Setup.{Setup}
 use Rattle.protocol.specs.Inputs.{Checked}
-use Rattle.protocol.specs.Refusals.{and_then, refusal}
-use Rattle.protocol.specs.Samples.{samples_checked}
+use Rattle.protocol.specs.Refusals.{and_then}
 use Rattle.chips.specs.Machine.{fresh_machine, run_on, outs}
 use Rattle.models.specs.Powered.{fitted}
+use Rattle.models.specs.Traced.{trace_checked}
 use Rattle.c_surface.specs.declared.answer.Answer.{Answer}
 use Rattle.c_surface.specs.Answers.{ended}
-
--- a sample above 31, then a buffer of another length
-abbrev pub trace_checked : List ℕ → ℕ → Checked
-trace_checked samples size = and_then (samples_checked samples) (cond (size == length samples) (Ok tt) (Err (refusal BufferLength 0)))
 
 abbrev pub checked_for : Result Setup Refusal → Checked → Result Setup Refusal
 checked_for (Ok setup) check = and_then check (Ok setup)

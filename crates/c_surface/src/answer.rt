@@ -1,6 +1,6 @@
 //! What every function answers.
 ghost use Rattle.std.specs.Prelude.{◌≡◌};
-ghost use Rattle.c_surface.specs.Answers.{ended};
+ghost use Rattle.c_surface.specs.Answers.{ended, answered};
 
 use protocol::refusal::Refusal;
 
@@ -8,6 +8,7 @@ use protocol::refusal::Refusal;
 #[derive(Clone, Copy, Drop)]
 #[repr(C)]
 pub struct Answer {
+    // numbers, since C has no enum of refusals
     pub refusal: u64,
     pub place: u64,
     pub length: u64,
@@ -17,17 +18,26 @@ impl Answer {
     pub(crate) fn new(res: Result<(), Refusal>, length: usize) -> Answer
         ensures { result ≡ ended res length }
     {
+        let (refusal, place) = match res {
+            Ok(()) => (0, 0),
+            Err(refusal) => (u8::from(refusal.cause), refusal.place),
+        };
+        Answer {
+            refusal: refusal as u64,
+            place: place as u64,
+            length: length as u64,
+        }
+    }
+}
+
+// A length, or a refusal with length 0.
+impl From<Result<usize, Refusal>> for Answer {
+    ghost from_gives = { λ res answer. answer ≡ answered res };
+
+    fn from(res: Result<usize, Refusal>) -> Answer {
         match res {
-            Ok(()) => Answer {
-                refusal: 0,
-                place: 0,
-                length: length as u64,
-            },
-            Err(refusal) => Answer {
-                refusal: refusal.cause.number() as u64,
-                place: refusal.place as u64,
-                length: length as u64,
-            },
+            Ok(length) => Answer::new(Ok(()), length),
+            Err(refusal) => Answer::new(Err(refusal), 0),
         }
     }
 }

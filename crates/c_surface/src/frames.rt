@@ -1,7 +1,8 @@
 //! Frames into a buffer.
 ghost use Rattle.std.specs.Prelude.{◌≡◌, not, ◌==◌};
 ghost use Rattle.frame_writer.specs.Written.{written};
-ghost use Rattle.c_surface.specs.Filling.{instruction_from, framed, frame_buffer, frame_answer};
+ghost use Rattle.c_surface.specs.Answers.{answered};
+ghost use Rattle.c_surface.specs.Filling.{instruction_from, framed, frame_buffer, frame_length, frame_answer};
 
 use crate::answer::Answer;
 use frame_writer::write_frame;
@@ -9,7 +10,7 @@ use protocol::instruction::Instruction;
 use protocol::list::List;
 use protocol::refusal::{Cause, Refusal};
 
-// The value is the word of a WRITE or WRALL, and the number of words of a READ.
+// The value is the word of a WRITE or WRALL, and the number of words of a READ. C names the kind by its number.
 fn instruction_from(kind: u8, address: u16, value: u16) -> Option<Instruction>
     ensures { result ≡ instruction_from kind address value }
 {
@@ -28,20 +29,23 @@ fn instruction_from(kind: u8, address: u16, value: u16) -> Option<Instruction>
     }
 }
 
-fn write_into(part: u8, org: bool, pe: bool, instruction: Instruction, samples: &mut [u8]) -> Answer
-    ensures answer { result ≡ frame_answer (written part org pe instruction) samples.old }
+// The length of the frame, at the front of the buffer.
+fn write_into(
+    part: u8,
+    org: bool,
+    pe: bool,
+    instruction: Instruction,
+    samples: &mut [u8],
+) -> Result<usize, Refusal>
+    ensures length { result ≡ frame_length (written part org pe instruction) samples.old }
     ensures buffer { samples.new ≡ frame_buffer (written part org pe instruction) samples.old }
 {
     let mut list = List::new(samples);
-    let result = write_frame(part, org, pe, instruction, &mut list);
-    let length = list.len();
-    match result {
-        Ok(()) => Answer::new(Ok(()), length),
-        Err(refusal) => Answer::new(Err(refusal), 0),
-    }
+    write_frame(part, org, pe, instruction, &mut list)?;
+    Ok(list.len())
 }
 
-// The frame of an instruction, at the front of the buffer. The length is that of the frame.
+// The frame of an instruction, at the front of the buffer. The length is that of the frame. C names part, levels and kind by numbers.
 #[unsafe(no_mangle)]
 pub extern "C" fn kippercrag_write_frame(
     part: u8,
@@ -56,13 +60,7 @@ pub extern "C" fn kippercrag_write_frame(
     ensures buffer { samples.new ≡ frame_buffer (framed part (not (org == 0)) (not (pe == 0)) (instruction_from kind address value)) samples.old }
 {
     match instruction_from(kind, address, value) {
-        Some(instruction) => write_into(part, org != 0, pe != 0, instruction, samples),
-        None => {
-            let refusal = Refusal {
-                cause: Cause::BadSettings,
-                place: 0,
-            };
-            Answer::new(Err(refusal), 0)
-        }
+        Some(instruction) => write_into(part, org != 0, pe != 0, instruction, samples).into(),
+        None => Err(Cause::BadSettings.into()).into(),
     }
 }

@@ -7,11 +7,12 @@ ghost use Rattle.c_surface.specs.Filling.{filled_with, text_answer, TextGiven, c
 
 use crate::answer::Answer;
 use crate::settings::settings_from;
-use listing::file::{NO_ENTRY, list_file};
+use listing::file::list_file;
 use protocol::list::List;
 use protocol::refusal::{Cause, Refusal};
 use protocol::settings::Settings;
 use std::alloc::{AllocError, Global};
+use traces::entry::Entry;
 use traces::reader::read_trace;
 
 // The bytes at the front of the buffer, if they fit.
@@ -26,14 +27,13 @@ fn give(res: Result<(), Refusal>, bytes: &[u8], buffer: &mut [u8]) -> Answer
     }
 }
 
-fn no_memory() -> Answer
-    ensures { result ≡ too_short 0 }
-{
-    let refusal = Refusal {
-        cause: Cause::NoRoom,
-        place: 0,
-    };
-    Answer::new(Err(refusal), 0)
+// The heap has no memory.
+impl From<AllocError> for Answer {
+    ghost from_gives = { λ _ answer. answer ≡ too_short 0 };
+
+    fn from(_: AllocError) -> Answer {
+        Err(Cause::NoRoom.into()).into()
+    }
 }
 
 // The listing of a trace file. The length is that of its text, even where it does not fit.
@@ -43,7 +43,7 @@ pub extern "C" fn kippercrag_list_trace(heap: Global, file: &[u8], text: &mut [u
 {
     match list_file(heap, file) {
         Ok(listing) => give(listing.answer, listing.text.as_bytes(), text),
-        Err(_) => no_memory(),
+        Err(error) => error.into(),
     }
 }
 
@@ -55,13 +55,13 @@ fn count(
 ) -> Result<Answer, AllocError>
     ensures { IfOk result (λ a. a ≡ count_answer (of_chip room (readable settings samples.now) samples.now)) }
 {
-    let mut entries = vec![in heap; NO_ENTRY; room]?;
+    let mut entries = vec![in heap; Entry::NONE; room]?;
     let mut entries = List::new(&mut entries);
     let result = read_trace(settings, samples, &mut entries);
     Ok(Answer::new(result, entries.len()))
 }
 
-// How many entries the reader makes of a trace, with room for so many. The length is their number.
+// How many entries the reader makes of a trace, with room for so many. The length is their number. C names a chip by five numbers.
 #[unsafe(no_mangle)]
 pub extern "C" fn kippercrag_count_entries(
     heap: Global,
@@ -78,6 +78,6 @@ pub extern "C" fn kippercrag_count_entries(
     let settings = settings_from(part, edition, write, eral, wrall);
     match count(heap, settings, samples, room) {
         Ok(answer) => answer,
-        Err(_) => no_memory(),
+        Err(error) => error.into(),
     }
 }

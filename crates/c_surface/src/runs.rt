@@ -5,15 +5,10 @@ ghost use Rattle.c_surface.specs.Running.{runnable, bytes_ran, levels_ran, run_a
 
 use crate::answer::Answer;
 use crate::settings::settings_from;
-use models::model::{Model, Straps, check};
+use models::model::{Model, check};
 use protocol::refusal::Refusal;
+use protocol::sample::Straps;
 use protocol::settings::{Settings, Setup};
-
-// Every sample brings its own levels, so that the straps do not matter.
-const STRAPS: Straps = Straps {
-    org: true,
-    pe: true,
-};
 
 fn run(
     settings: Settings,
@@ -26,12 +21,13 @@ fn run(
     ensures levels { levels.new ≡ levels_ran (runnable settings (length memory.old) samples.now (length levels.old)) samples.now memory.old levels.old }
 {
     let setup = check(settings, memory.len())?;
-    let mut model = Model::new(memory, settings, STRAPS);
+    // every sample brings its own levels, so that the straps do not matter
+    let mut model = Model::new(memory, settings, Straps::HIGH);
     model.run_trace(samples, levels)?;
     Ok(setup)
 }
 
-// Runs a trace on a chip at power-up over the memory. The length is the number of samples.
+// Runs a trace on a chip at power-up over the memory. The length is the number of samples. C names a chip by five numbers.
 #[unsafe(no_mangle)]
 pub extern "C" fn kippercrag_run_trace(
     part: u8,
@@ -48,8 +44,7 @@ pub extern "C" fn kippercrag_run_trace(
     ensures levels { levels.new ≡ levels_ran (runnable (settings_from part edition write eral wrall) (length memory.old) samples.now (length levels.old)) samples.now memory.old levels.old }
 {
     let settings = settings_from(part, edition, write, eral, wrall);
-    match run(settings, memory, samples, levels) {
-        Ok(_) => Answer::new(Ok(()), samples.len()),
-        Err(refusal) => Answer::new(Err(refusal), 0),
-    }
+    run(settings, memory, samples, levels)
+        .map(|_| samples.len())
+        .into()
 }
