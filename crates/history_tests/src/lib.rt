@@ -12,16 +12,11 @@ mod tests {
     use protocol::instruction::Instruction;
     use protocol::list::List;
     use protocol::refusal::{Cause, Refusal};
-    use protocol::settings::Cycles;
+    use protocol::settings::{Cycles, Edition};
     use std::process::Abort;
     use std::test::Fail;
 
     const DONE: Result<(), Refusal> = Ok(());
-
-    const HIGH: Straps = Straps {
-        org: true,
-        pe: true,
-    };
 
     // Width 8 on an 86.
     const NARROW: Straps = Straps {
@@ -53,8 +48,13 @@ mod tests {
         }
     }
 
+    // A 46 of the fall edition.
+    fn small<'a>(memory: &'a mut [u8], length: u16) -> Model<'a> {
+        Model::in_edition(memory, Edition::Fall, 46, cycles(length), Straps::HIGH)
+    }
+
     fn refused(cause: Cause) -> Result<(), Refusal> {
-        Err(Refusal { cause, place: 0 })
+        Err(cause.into())
     }
 
     // Every kind of call, with a run that goes on from the last cell to cell 0, and a change of the chip when shut.
@@ -108,24 +108,43 @@ mod tests {
         room
     }
 
+    // The table on a chip over this memory: all its answers, and these words.
+    fn check_history(
+        rt: &impl Abort,
+        memory: &mut [u8],
+        edition: Edition,
+        part: u8,
+        straps: Straps,
+        calls: [Call; 14],
+        words: [u16; 9],
+    ) {
+        let mut heard = [0; 9];
+        let mut chip = Model::in_edition(memory, edition, part, cycles(5), straps);
+        assert_eq!(rt; answers_of(&mut chip, calls, &mut heard), expected());
+        assert_eq!(rt; heard, words);
+    }
+
+    // The words of the table at width 16.
+    const WORDS: [u16; 9] = [
+        0x1234, 0x035a, 0x1234, 0x0102, 0x5a5a, 0xffff, 0xa5a5, 0xa5a5, 0xffff,
+    ];
+
     #[test]
     fn history_of_a_46(rt: HostRuntime) {
         let mut memory = [0x5a; 128];
-        let mut words = [0; 9];
         memory[0] = 1;
         memory[1] = 2;
-        memory[124] = 3;
-        {
-            let mut chip = Model::fall(&mut memory, 46, cycles(5), HIGH);
-            let calls = table(62, 63, 0x1234, 0xa5a5);
-            assert_eq!(rt; answers_of(&mut chip, calls, &mut words), expected());
-        }
         // cell 62 is bytes 124 and 125
-        assert_eq!(rt;
-            words,
-            [
-                0x1234, 0x035a, 0x1234, 0x0102, 0x5a5a, 0xffff, 0xa5a5, 0xa5a5, 0xffff,
-            ]
+        memory[124] = 3;
+        let calls = table(62, 63, 0x1234, 0xa5a5);
+        check_history(
+            &rt,
+            &mut memory,
+            Edition::Fall,
+            46,
+            Straps::HIGH,
+            calls,
+            WORDS,
         );
         assert_eq!(rt; memory, [0xff; 128]);
     }
@@ -133,21 +152,19 @@ mod tests {
     #[test]
     fn history_of_an_86(rt: HostRuntime) {
         let mut memory = [0x5a; 2048];
-        let mut words = [0; 9];
         memory[0] = 1;
         memory[1] = 2;
-        memory[2044] = 3;
-        {
-            let mut chip = Model::clock(&mut memory, 86, cycles(5), HIGH);
-            let calls = table(1022, 1023, 0x1234, 0xa5a5);
-            assert_eq!(rt; answers_of(&mut chip, calls, &mut words), expected());
-        }
         // cell 1022 is bytes 2044 and 2045
-        assert_eq!(rt;
-            words,
-            [
-                0x1234, 0x035a, 0x1234, 0x0102, 0x5a5a, 0xffff, 0xa5a5, 0xa5a5, 0xffff,
-            ]
+        memory[2044] = 3;
+        let calls = table(1022, 1023, 0x1234, 0xa5a5);
+        check_history(
+            &rt,
+            &mut memory,
+            Edition::Clock,
+            86,
+            Straps::HIGH,
+            calls,
+            WORDS,
         );
         assert_eq!(rt; memory, [0xff; 2048]);
     }
@@ -155,16 +172,12 @@ mod tests {
     #[test]
     fn history_of_a_narrow_86(rt: HostRuntime) {
         let mut memory = [0x5a; 2048];
-        let mut words = [0; 9];
         memory[0] = 1;
         memory[1] = 2;
         memory[2046] = 3;
-        {
-            let mut chip = Model::clock(&mut memory, 86, cycles(5), NARROW);
-            let calls = table(2046, 2047, 0x34, 0xa5);
-            assert_eq!(rt; answers_of(&mut chip, calls, &mut words), expected());
-        }
-        assert_eq!(rt; words, [0x34, 3, 0x34, 1, 2, 0xff, 0xa5, 0xa5, 0xff]);
+        let calls = table(2046, 2047, 0x34, 0xa5);
+        let words = [0x34, 3, 0x34, 1, 2, 0xff, 0xa5, 0xa5, 0xff];
+        check_history(&rt, &mut memory, Edition::Clock, 86, NARROW, calls, words);
         assert_eq!(rt; memory, [0xff; 2048]);
     }
 
@@ -174,15 +187,11 @@ mod tests {
         address: u16,
         words: &mut [u16],
     ) -> [Result<(), Refusal>; 5] {
-        let read = match driver.read(address) {
-            Ok(_) => DONE,
-            Err(refusal) => Err(refusal),
-        };
         [
             driver.settle(),
             driver.open(),
             driver.shut(),
-            read,
+            driver.read(address).map(|_| ()),
             driver.run(address, words),
         ]
     }
@@ -213,7 +222,7 @@ mod tests {
         let mut memory = [7; 100];
         let mut words = [9; 2];
         {
-            let mut chip = Model::fall(&mut memory, 46, cycles(5), HIGH);
+            let mut chip = small(&mut memory, 5);
             check_blank(&rt, &mut chip, &mut words);
         }
         assert_eq!(rt; words, [9; 2]);
@@ -245,7 +254,7 @@ mod tests {
         let mut memory = [7; 2048];
         let mut words = [9; 2];
         {
-            let mut chip = Model::clock(&mut memory, 86, cycles(5), NARROW);
+            let mut chip = Model::in_edition(&mut memory, Edition::Clock, 86, cycles(5), NARROW);
             check_input(&rt, &mut chip, &mut words);
         }
         assert_eq!(rt; words, [9; 2]);
@@ -266,7 +275,7 @@ mod tests {
         let mut none = [9; 0];
         let mut all = [9; 64];
         let mut more = [9; 65];
-        let mut chip = Model::fall(&mut memory, 46, cycles(5), HIGH);
+        let mut chip = small(&mut memory, 5);
         assert_eq!(rt; run(&mut chip, 63, &mut none), count);
         assert_eq!(rt; run(&mut chip, 63, &mut more), count);
         assert_eq!(rt; run(&mut chip, 64, &mut more), refused(Cause::Address));
@@ -295,7 +304,7 @@ mod tests {
         let mut memory = [7; 2048];
         let mut words = [9; 2];
         {
-            let mut chip = Model::clock(&mut memory, 86, cycles(5), PROTECTED);
+            let mut chip = Model::in_edition(&mut memory, Edition::Clock, 86, cycles(5), PROTECTED);
             check_state(&rt, &mut chip, &mut words)?;
         }
         assert_eq!(rt; words, [9; 2]);
@@ -317,15 +326,20 @@ mod tests {
         Ok([driver.write(5, 0x1234), driver.settle(), driver.settle()])
     }
 
-    fn waits_of_fall(length: u16) -> Result<[Result<(), Refusal>; 3], Refusal> {
-        let mut memory = [0; 128];
-        let mut chip = Model::fall(&mut memory, 46, cycles(length), HIGH);
-        waits(&mut chip)
-    }
-
-    fn waits_of_clock(length: u16) -> Result<[Result<(), Refusal>; 3], Refusal> {
+    // On a 46 of the fall edition, or an 86 of the clock edition.
+    fn waits_of(edition: Edition, length: u16) -> Result<[Result<(), Refusal>; 3], Refusal> {
         let mut memory = [0; 2048];
-        let mut chip = Model::clock(&mut memory, 86, cycles(length), HIGH);
+        let (part, size) = match edition {
+            Edition::Fall => (46, 128),
+            Edition::Clock => (86, 2048),
+        };
+        let mut chip = Model::in_edition(
+            &mut memory[..size],
+            edition,
+            part,
+            cycles(length),
+            Straps::HIGH,
+        );
         waits(&mut chip)
     }
 
@@ -335,17 +349,17 @@ mod tests {
     fn cycles_are_waited_for(rt: HostRuntime) {
         let unfinished = refused(Cause::Unfinished);
         let late = [unfinished, DONE, DONE];
-        assert_eq!(rt; waits_of_fall(4096), Ok([DONE; 3]));
-        assert_eq!(rt; waits_of_fall(4097), Ok(late));
-        assert_eq!(rt; waits_of_fall(5000), Ok(late));
+        assert_eq!(rt; waits_of(Edition::Fall, 4096), Ok([DONE; 3]));
+        assert_eq!(rt; waits_of(Edition::Fall, 4097), Ok(late));
+        assert_eq!(rt; waits_of(Edition::Fall, 5000), Ok(late));
         // the second polling ends at 4097 + 4096
-        assert_eq!(rt; waits_of_fall(8193), Ok(late));
+        assert_eq!(rt; waits_of(Edition::Fall, 8193), Ok(late));
         assert_eq!(rt;
-            waits_of_fall(8194),
+            waits_of(Edition::Fall, 8194),
             Ok([unfinished, refused(Cause::Busy), DONE])
         );
-        assert_eq!(rt; waits_of_clock(4098), Ok([DONE; 3]));
-        assert_eq!(rt; waits_of_clock(4099), Ok(late));
+        assert_eq!(rt; waits_of(Edition::Clock, 4098), Ok([DONE; 3]));
+        assert_eq!(rt; waits_of(Edition::Clock, 4099), Ok(late));
     }
 
     fn check_busy<C: Chip>(rt: &impl Abort, chip: &mut C) -> Result<(), Fail> {
@@ -364,7 +378,7 @@ mod tests {
     #[test]
     fn busy_leaves_the_words(rt: HostRuntime) -> Result<(), Fail> {
         let mut memory = [0; 128];
-        let mut chip = Model::fall(&mut memory, 46, cycles(8194), HIGH);
+        let mut chip = small(&mut memory, 8194);
         check_busy(&rt, &mut chip)
     }
 
@@ -374,7 +388,7 @@ mod tests {
         driver.greet()?;
         driver.open()?;
         assert_eq!(rt; driver.write(5, 0x1234), refused(Cause::Unfinished));
-        for i in 0..refusals {
+        for _ in 0..refusals {
             assert_eq!(rt; driver.settle(), refused(Cause::Busy));
         }
         assert_eq!(rt; driver.read(5), Ok(0x1234));
@@ -385,7 +399,7 @@ mod tests {
     #[test]
     fn longest_cycle_ends(rt: HostRuntime) -> Result<(), Fail> {
         let mut memory = [0; 128];
-        let mut chip = Model::fall(&mut memory, 46, cycles(65535), HIGH);
+        let mut chip = small(&mut memory, 65535);
         check_longest(&rt, &mut chip, 14)
     }
 
@@ -408,7 +422,7 @@ mod tests {
     // DO as CS falls after a WRITE and in two samples with CS high, and what a new driver then reads.
     fn status(length: u16) -> Result<([u8; 3], u16), Refusal> {
         let mut memory = [0; 128];
-        let mut chip = Model::fall(&mut memory, 46, cycles(length), HIGH);
+        let mut chip = small(&mut memory, length);
         open(&mut chip)?;
         clock_in(&mut chip, &WRITE);
         let levels = [
@@ -427,14 +441,14 @@ mod tests {
         assert_eq!(rt; status(1), Ok(([2, 2, 2], 0x8001)));
         assert_eq!(rt; status(2), Ok(([2, 0, 1], 0x8001)));
         assert_eq!(rt; status(3), Ok(([2, 0, 0], 0x8001)));
-        assert_eq!(rt; waits_of_fall(1), Ok([DONE; 3]));
-        assert_eq!(rt; waits_of_clock(1), Ok([DONE; 3]));
+        assert_eq!(rt; waits_of(Edition::Fall, 1), Ok([DONE; 3]));
+        assert_eq!(rt; waits_of(Edition::Clock, 1), Ok([DONE; 3]));
     }
 
     // What a new driver reads in cell 5 of an open chip that has been sent these bits and has CS still high.
     fn met(bits: &[bool]) -> Result<u16, Refusal> {
         let mut memory = [0x5a; 128];
-        let mut chip = Model::fall(&mut memory, 46, cycles(5), HIGH);
+        let mut chip = small(&mut memory, 5);
         open(&mut chip)?;
         clock_in(&mut chip, bits);
         meet(&mut chip, 5)
@@ -452,14 +466,10 @@ mod tests {
     #[test]
     fn busy_chip_is_met(rt: HostRuntime) -> Result<(), Fail> {
         let mut memory = [0; 128];
-        let mut chip = Model::fall(&mut memory, 46, cycles(4097), HIGH);
+        let mut chip = small(&mut memory, 4097);
         open(&mut chip)?;
         clock_in(&mut chip, &WRITE);
-        let busy = Refusal {
-            cause: Cause::Busy,
-            place: 0,
-        };
-        assert_eq!(rt; meet(&mut chip, 5), Err(busy));
+        assert_eq!(rt; meet(&mut chip, 5), Err(Cause::Busy.into()));
         assert_eq!(rt; meet(&mut chip, 5), Ok(0x8001));
         Ok(())
     }
@@ -470,7 +480,7 @@ mod tests {
         let mut memory = [7; 128];
         let mut words = [9; 8];
         {
-            let mut chip = Model::fall(&mut memory, 46, cycles(5), HIGH);
+            let mut chip = small(&mut memory, 5);
             let mut room = [DONE; 14];
             let mut answers = List::new(&mut room);
             let mut heard = List::new(&mut words);

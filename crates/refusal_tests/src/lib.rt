@@ -4,12 +4,11 @@
 #[cfg(test)]
 mod tests {
     use chips::chip::Chip;
-    use chips::state::Verdict;
-    use models::model::{Model, Straps, check};
+    use models::model::{Model, check};
     use protocol::list::List;
-    use protocol::parts::Width;
     use protocol::refusal::{Cause, Refusal};
-    use protocol::settings::{Cycles, Settings};
+    use protocol::sample::Straps;
+    use protocol::settings::{Cycles, Edition, Settings};
     use traces::entry::Entry;
     use traces::reader::read_trace;
     use traces::replay::replay;
@@ -18,21 +17,6 @@ mod tests {
         write: 5,
         eral: 5,
         wrall: 5,
-    };
-
-    const HIGH: Straps = Straps {
-        org: true,
-        pe: true,
-    };
-
-    const NO_ENTRY: Entry = Entry {
-        kind: None,
-        address: None,
-        data: None,
-        width: Width::Sixteen,
-        first: 0,
-        last: 0,
-        verdict: Verdict::WrongCount,
     };
 
     // The frame of WEN on a 46.
@@ -48,42 +32,25 @@ mod tests {
         }
     }
 
-    fn refused(cause: Cause, place: usize) -> Refusal {
-        Refusal { cause, place }
-    }
-
     // What a check refuses, or nothing.
     fn check_refusal(part: u8, edition: u8, size: usize) -> Option<Refusal> {
-        match check(settings(part, edition), size) {
-            Ok(_) => None,
-            Err(refusal) => Some(refusal),
-        }
+        check(settings(part, edition), size).err()
+    }
+
+    // A 46 of the fall edition.
+    fn small<'a>(memory: &'a mut [u8], straps: Straps) -> Model<'a> {
+        Model::in_edition(memory, Edition::Fall, 46, CYCLES, straps)
     }
 
     #[test]
     fn checks(rt: HostRuntime) {
         assert_eq!(rt; check_refusal(46, 0, 128), None);
         assert_eq!(rt; check_refusal(86, 1, 2048), None);
-        assert_eq!(rt;
-            check_refusal(47, 0, 128),
-            Some(refused(Cause::BadSettings, 0))
-        );
-        assert_eq!(rt;
-            check_refusal(66, 1, 512),
-            Some(refused(Cause::BadSettings, 0))
-        );
-        assert_eq!(rt;
-            check_refusal(76, 2, 1024),
-            Some(refused(Cause::BadSettings, 0))
-        );
-        assert_eq!(rt;
-            check_refusal(46, 0, 127),
-            Some(refused(Cause::MemorySize, 0))
-        );
-        assert_eq!(rt;
-            check_refusal(47, 0, 127),
-            Some(refused(Cause::BadSettings, 0))
-        );
+        assert_eq!(rt; check_refusal(47, 0, 128), Some(Cause::BadSettings.at(0)));
+        assert_eq!(rt; check_refusal(66, 1, 512), Some(Cause::BadSettings.at(0)));
+        assert_eq!(rt; check_refusal(76, 2, 1024), Some(Cause::BadSettings.at(0)));
+        assert_eq!(rt; check_refusal(46, 0, 127), Some(Cause::MemorySize.at(0)));
+        assert_eq!(rt; check_refusal(47, 0, 127), Some(Cause::BadSettings.at(0)));
     }
 
     #[test]
@@ -91,12 +58,12 @@ mod tests {
         let mut memory = [7u8; 100];
         let mut levels = [9u8; 21];
         {
-            let mut chip = Model::fall(&mut memory, 46, CYCLES, HIGH);
+            let mut chip = small(&mut memory, Straps::HIGH);
             assert_eq!(rt; chip.facts(), (0, 0, 0));
             assert_eq!(rt; chip.put(true, false, false), 2);
             assert_eq!(rt;
                 chip.run_trace(&WEN, &mut levels),
-                Err(refused(Cause::BlankChip, 0))
+                Err(Cause::BlankChip.at(0))
             );
         }
         assert_eq!(rt; memory, [7u8; 100]);
@@ -109,13 +76,13 @@ mod tests {
             org: false,
             pe: false,
         };
-        let mut small = [0u8; 128];
+        let mut memory = [0u8; 128];
         let mut large = [0u8; 1024];
         {
-            let fall = Model::fall(&mut small, 46, CYCLES, low);
+            let fall = small(&mut memory, low);
             assert_eq!(rt; fall.facts(), (46, 1, 1));
         }
-        let clock = Model::clock(&mut large, 76, CYCLES, low);
+        let clock = Model::in_edition(&mut large, Edition::Clock, 76, CYCLES, low);
         assert_eq!(rt; clock.facts(), (76, 0, 0));
     }
 
@@ -123,18 +90,18 @@ mod tests {
     fn trace_call_refuses(rt: HostRuntime) {
         let mut memory = [7u8; 128];
         let mut levels = [9u8; 3];
-        let mut chip = Model::fall(&mut memory, 46, CYCLES, HIGH);
+        let mut chip = small(&mut memory, Straps::HIGH);
         assert_eq!(rt;
             chip.run_trace(&[1, 32, 33], &mut levels),
-            Err(refused(Cause::HighSample, 1))
+            Err(Cause::HighSample.at(1))
         );
         assert_eq!(rt;
             chip.run_trace(&[1, 32], &mut levels),
-            Err(refused(Cause::HighSample, 1))
+            Err(Cause::HighSample.at(1))
         );
         assert_eq!(rt;
             chip.run_trace(&[1, 3], &mut levels),
-            Err(refused(Cause::BufferLength, 0))
+            Err(Cause::BufferLength.at(0))
         );
         assert_eq!(rt; levels, [9u8; 3]);
         assert_eq!(rt; chip.run_trace(&[1, 3, 0], &mut levels), Ok(()));
@@ -143,18 +110,18 @@ mod tests {
 
     #[test]
     fn reader_keeps_what_fits(rt: HostRuntime) {
-        let mut room = [NO_ENTRY; 1];
+        let mut room = [Entry::NONE; 1];
         let mut entries = List::new(&mut room);
         assert_eq!(rt;
             read_trace(settings(47, 0), &WEN, &mut entries),
-            Err(refused(Cause::BadSettings, 0))
+            Err(Cause::BadSettings.at(0))
         );
         assert_eq!(rt; entries.len(), 0);
         assert_eq!(rt; read_trace(settings(46, 0), &WEN, &mut entries), Ok(()));
         assert_eq!(rt; entries.len(), 1);
         assert_eq!(rt;
             read_trace(settings(46, 0), &WEN, &mut entries),
-            Err(refused(Cause::NoRoom, 20))
+            Err(Cause::NoRoom.at(20))
         );
         assert_eq!(rt; entries.len(), 1);
     }
@@ -163,31 +130,31 @@ mod tests {
     fn replay_refuses_in_order(rt: HostRuntime) {
         let mut memory = [7u8; 100];
         let mut levels = [9u8; 21];
-        let mut room = [NO_ENTRY; 0];
+        let mut room = [Entry::NONE; 0];
         let mut entries = List::new(&mut room);
         let bad = settings(47, 0);
         let good = settings(46, 0);
         assert_eq!(rt;
             replay(bad, &mut memory, &[40], &mut levels, &mut entries),
-            Err(refused(Cause::HighSample, 0))
+            Err(Cause::HighSample.at(0))
         );
         assert_eq!(rt;
             replay(bad, &mut memory, &[1], &mut levels, &mut entries),
-            Err(refused(Cause::BufferLength, 0))
+            Err(Cause::BufferLength.at(0))
         );
         assert_eq!(rt;
             replay(bad, &mut memory, &WEN, &mut levels, &mut entries),
-            Err(refused(Cause::BadSettings, 0))
+            Err(Cause::BadSettings.at(0))
         );
         assert_eq!(rt;
             replay(good, &mut memory, &WEN, &mut levels, &mut entries),
-            Err(refused(Cause::MemorySize, 0))
+            Err(Cause::MemorySize.at(0))
         );
         assert_eq!(rt; memory, [7u8; 100]);
         let mut whole = [7u8; 128];
         assert_eq!(rt;
             replay(good, &mut whole, &WEN, &mut levels, &mut entries),
-            Err(refused(Cause::NoRoom, 20))
+            Err(Cause::NoRoom.at(20))
         );
         assert_eq!(rt; whole, [7u8; 128]);
         assert_eq!(rt; levels, [9u8; 21]);

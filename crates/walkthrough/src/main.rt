@@ -6,14 +6,13 @@ use crate::recorder::perform_recorded;
 use crate::show::print_calls;
 use crate::task::TASK;
 use anyhow::anyhow;
-use chips::state::Verdict;
 use histories::perform::perform;
 use listing::lines::text_of;
-use models::model::{Model, Straps};
+use models::model::Model;
 use protocol::list::List;
-use protocol::parts::Width;
 use protocol::refusal::Refusal;
-use protocol::settings::{Cycles, Settings};
+use protocol::sample::Straps;
+use protocol::settings::{Cycles, Edition, Settings};
 use traces::entry::Entry;
 use traces::reader::read_trace;
 
@@ -31,11 +30,6 @@ const CYCLES: Cycles = Cycles {
     wrall: 9000,
 };
 
-const STRAPS: Straps = Straps {
-    org: true,
-    pe: true,
-};
-
 const SETTINGS: Settings = Settings {
     part: PART,
     edition: 0,
@@ -51,16 +45,6 @@ const ANSWERS: usize = 20;
 
 const WORDS: usize = 8;
 
-const NO_ENTRY: Entry = Entry {
-    kind: None,
-    address: None,
-    data: None,
-    width: Width::Sixteen,
-    first: 0,
-    last: 0,
-    verdict: Verdict::WrongCount,
-};
-
 fn print_board(rt: &HostRuntime) -> anyhow::Result<()> {
     let write = CYCLES.write;
     let clear = CYCLES.eral;
@@ -70,35 +54,29 @@ fn print_board(rt: &HostRuntime) -> anyhow::Result<()> {
     Ok(())
 }
 
-// A list without room is an error.
-fn roomy<T: Drop>(answer: Result<T, Refusal>) -> anyhow::Result<T> {
-    match answer {
-        Ok(value) => Ok(value),
-        Err(_) => Err(anyhow!("no room")),
-    }
-}
-
-// The task on a chip of the fall edition, with its samples on the tape; the answer is how many.
+// The task on a chip of the fall edition, with its samples on the tape.
+// Answers and words stay two lists: a struct of both would be made here alone and taken apart for `perform`.
 fn perform_task(
     rt: &HostRuntime,
-    tape: &mut [u8],
+    tape: &mut List<u8>,
     answers: &mut List<Result<(), Refusal>>,
     words: &mut List<u16>,
-) -> anyhow::Result<usize> {
+) -> anyhow::Result<()> {
     let mut memory = vec![in rt.alloc(); 255u8; BYTES]?;
-    let mut model = Model::fall(&mut memory, PART, CYCLES, STRAPS);
-    roomy(perform_recorded(&mut model, tape, &TASK, answers, words))
+    let mut model = Model::in_edition(&mut memory, Edition::Fall, PART, CYCLES, Straps::HIGH);
+    perform_recorded(&mut model, tape, &TASK, answers, words)?;
+    Ok(())
 }
 
 // The task on a chip of the clock edition: does it answer the same?
 fn compare(rt: &HostRuntime, answers: &[Result<(), Refusal>], words: &[u16]) -> anyhow::Result<()> {
     let mut memory = vec![in rt.alloc(); 255u8; BYTES]?;
-    let mut model = Model::clock(&mut memory, PART, CYCLES, STRAPS);
+    let mut model = Model::in_edition(&mut memory, Edition::Clock, PART, CYCLES, Straps::HIGH);
     let mut other_answers = [Ok(()); ANSWERS];
     let mut other_words = [0; WORDS];
     let mut other_answers = List::new(&mut other_answers);
     let mut other_words = List::new(&mut other_words);
-    roomy(perform(&mut model, &TASK, &mut other_answers, &mut other_words))?;
+    perform(&mut model, &TASK, &mut other_answers, &mut other_words)?;
     if answers == other_answers.items() && words == other_words.items() {
         println!(rt; "the clock edition gave the same answers and words")?;
     } else {
@@ -109,7 +87,7 @@ fn compare(rt: &HostRuntime, answers: &[Result<(), Refusal>], words: &[u16]) -> 
 
 // The listing of the tape.
 fn print_listing(rt: &HostRuntime, samples: &[u8]) -> anyhow::Result<()> {
-    let mut entries = [NO_ENTRY; ENTRIES];
+    let mut entries = [Entry::NONE; ENTRIES];
     let mut entries = List::new(&mut entries);
     let answer = read_trace(SETTINGS, samples, &mut entries);
     let text = text_of(rt.alloc(), entries.items(), answer)?;
@@ -119,19 +97,21 @@ fn print_listing(rt: &HostRuntime, samples: &[u8]) -> anyhow::Result<()> {
 
 fn run(rt: &HostRuntime) -> anyhow::Result<()> {
     let mut tape = vec![in rt.alloc(); 0u8; SAMPLES]?;
+    let mut tape = List::new(&mut tape);
     let mut answers = [Ok(()); ANSWERS];
     let mut words = [0; WORDS];
     let mut answers = List::new(&mut answers);
     let mut words = List::new(&mut words);
     print_board(rt)?;
-    let count = perform_task(rt, &mut tape, &mut answers, &mut words)?;
+    perform_task(rt, &mut tape, &mut answers, &mut words)?;
     print_calls(rt, &TASK, answers.items(), words.items())?;
     compare(rt, answers.items(), words.items())?;
-    if count >= SAMPLES {
+    let count = tape.len();
+    if count >= tape.room() {
         return Err(anyhow!("the tape is full"));
     }
     println!(rt; "{count} samples were recorded, all that were put")?;
-    print_listing(rt, &tape[0..count])
+    print_listing(rt, tape.items())
 }
 
 fn main(rt: HostRuntime) -> anyhow::Result<()> {

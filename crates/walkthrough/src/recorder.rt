@@ -4,32 +4,21 @@ use histories::call::Call;
 use histories::perform::perform;
 use protocol::list::List;
 use protocol::refusal::Refusal;
+use protocol::sample::Straps;
 
-// The first `count` places of the tape are in use.
 #[derive(Drop)]
-pub struct Recorder<'b, C: Chip> {
-    chip: &'b mut C,
-    tape: &'b mut [u8],
-    count: usize,
-}
-
-// What a level adds to a sample byte.
-fn bit(high: bool, weight: u8) -> u8 {
-    if high { weight } else { 0 }
-}
-
-// The sample byte of the five levels.
-fn byte_of(cs: bool, sk: bool, di: bool, org: bool, pe: bool) -> u8 {
-    bit(cs, 1) | bit(sk, 2) | bit(di, 4) | bit(org, 8) | bit(pe, 16)
+pub struct Recorder<'t, 's, C: Chip> {
+    chip: C,
+    tape: &'t mut List<'s, u8>,
 }
 
 // It means what the chip below means, and shows what that one shows.
-impl<'b, C: Chip> Chip for Recorder<'b, C> {
-    ghost meaning = { λ r. C.Chip.meaning r.chip.now };
+impl<'t, 's, C: Chip> Chip for Recorder<'t, 's, C> {
+    ghost meaning = { λ r. C.Chip.meaning r.chip };
 
     ghost View = { C.Chip.View };
 
-    ghost view = { λ r. C.Chip.view r.chip.now };
+    ghost view = { λ r. C.Chip.view r.chip };
 
     ghost next = { C.Chip.next };
 
@@ -39,28 +28,24 @@ impl<'b, C: Chip> Chip for Recorder<'b, C> {
 
     fn put(&mut self, cs: bool, sk: bool, di: bool) -> u8 {
         let (_, org, pe) = self.chip.facts();
+        let straps = Straps {
+            org: org == 1,
+            pe: pe == 1,
+        };
         // a full tape stays as it is
-        if self.count < self.tape.len() {
-            self.tape[self.count] = byte_of(cs, sk, di, org == 1, pe == 1);
-            self.count += 1;
-        }
+        let _ = self.tape.push(straps.sample(cs, sk, di).into(), 0);
         self.chip.put(cs, sk, di)
     }
 }
 
-// Performs the calls with the samples kept on the tape; the answer is how many.
-pub fn perform_recorded<C: Chip>(
-    chip: &mut C,
-    tape: &mut [u8],
+// Performs the calls with the samples kept on the tape.
+pub fn perform_recorded<C: Chip + Drop>(
+    chip: C,
+    tape: &mut List<u8>,
     calls: &[Call],
     answers: &mut List<Result<(), Refusal>>,
     words: &mut List<u16>,
-) -> Result<usize, Refusal> {
-    let mut recorder = Recorder {
-        chip,
-        tape,
-        count: 0,
-    };
-    perform(&mut recorder, calls, answers, words)?;
-    Ok(recorder.count)
+) -> Result<(), Refusal> {
+    let mut recorder = Recorder { chip, tape };
+    perform(&mut recorder, calls, answers, words)
 }
