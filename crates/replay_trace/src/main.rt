@@ -17,7 +17,7 @@ use traces::replay::replay;
 // One byte more than a trace file may have. `list_trace` reads its input so too: a crate for two lines would be longer.
 const ENOUGH: u64 = LIMIT as u64 + 1;
 
-// The bytes of the part that settings name, or none.
+// The bytes of the part that settings name; none of them is a memory of size 0, which the replay refuses.
 fn size_of(taken: Result<Settings, Refusal>) -> usize {
     taken
         .ok()
@@ -73,6 +73,7 @@ fn replay_file(rt: &HostRuntime, file: &[u8]) -> anyhow::Result<()> {
     Ok(())
 }
 
+// `list_cases` goes over its files so too: a crate for three lines would be longer.
 fn replay_named(rt: &HostRuntime, path: &str) -> anyhow::Result<()> {
     let file = fs::read(rt, path)?;
     println!(rt; "== {path}")?;

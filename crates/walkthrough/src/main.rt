@@ -54,6 +54,11 @@ fn print_board(rt: &HostRuntime) -> anyhow::Result<()> {
     Ok(())
 }
 
+// The chip of the task, of either edition.
+fn chip<'a>(memory: &'a mut [u8], edition: Edition) -> Model<'a> {
+    Model::in_edition(memory, edition, PART, CYCLES, Straps::HIGH)
+}
+
 // The task on a chip of the fall edition, with its samples on the tape.
 // Answers and words stay two lists: a struct of both would be made here alone and taken apart for `perform`.
 fn perform_task(
@@ -63,7 +68,7 @@ fn perform_task(
     words: &mut List<u16>,
 ) -> anyhow::Result<()> {
     let mut memory = vec![in rt.alloc(); 255u8; BYTES]?;
-    let mut model = Model::in_edition(&mut memory, Edition::Fall, PART, CYCLES, Straps::HIGH);
+    let mut model = chip(&mut memory, Edition::Fall);
     perform_recorded(&mut model, tape, &TASK, answers, words)?;
     Ok(())
 }
@@ -71,7 +76,7 @@ fn perform_task(
 // The task on a chip of the clock edition: does it answer the same?
 fn compare(rt: &HostRuntime, answers: &[Result<(), Refusal>], words: &[u16]) -> anyhow::Result<()> {
     let mut memory = vec![in rt.alloc(); 255u8; BYTES]?;
-    let mut model = Model::in_edition(&mut memory, Edition::Clock, PART, CYCLES, Straps::HIGH);
+    let mut model = chip(&mut memory, Edition::Clock);
     let mut other_answers = [Ok(()); ANSWERS];
     let mut other_words = [0; WORDS];
     let mut other_answers = List::new(&mut other_answers);
