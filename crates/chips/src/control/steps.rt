@@ -1,4 +1,4 @@
-//! One sample after the other.
+//! One sample after the other. All of a step is inlined where it is called, so that a loop over samples keeps the state in registers.
 ghost use Rattle.std.specs.Prelude.{◌≡◌, ◌^◌, ◌<◌, ◌≤◌, true};
 ghost use Rattle.protocol.specs.Parts.{organisation, cells_of, bits_of};
 ghost use Rattle.protocol.specs.Instructions.{length_of, kind_at};
@@ -24,6 +24,7 @@ impl Control {
     }
 
     // Carries out what was decided.
+    #[inline(always)]
     fn obey(&mut self, decision: Decision)
         ensures state { self.new.state ≡ obeyed self.old.setup decision self.old.state }
         ensures setup { self.new.setup ≡ self.old.setup }
@@ -71,6 +72,7 @@ impl Control {
     }
 
     // CS has fallen: what that decides.
+    #[inline(always)]
     fn ending(&self, pe: bool) -> Decision
         ensures is { result ≡ ending self.now.setup self.now.state.enabled pe self.now.state.phase }
         ensures fits { DecisionFits self.now.setup.part result }
@@ -86,6 +88,7 @@ impl Control {
     }
 
     // An instruction has got one more bit.
+    #[inline(always)]
     fn take(&mut self, pe: bool, incoming: Incoming) -> Decision
         requires { incoming.setup ≡ self.old.setup }
         ensures { Turns self.old self.new result (taken self.old.setup pe incoming.width incoming.count incoming.bits self.old.state) }
@@ -112,6 +115,7 @@ impl Control {
 
     // A clock while an instruction comes in.
     #[tactic(auto, using(crate::proofs::Midways::midway), unfolding(crate::specs::Control::appended))]
+    #[inline(always)]
     fn append(&mut self, s: Sample, incoming: Incoming) -> Decision
         requires { incoming.setup ≡ self.old.setup }
         ensures { Turns self.old self.new result (appended self.old.setup s incoming.width incoming.count incoming.bits self.old.state) }
@@ -128,6 +132,7 @@ impl Control {
     }
 
     // The phase after a clock in reading.
+    #[inline(always)]
     fn read_on(&self, width: Width, cell: u16, next: u8) -> Phase
         requires { (cell < cells_of self.now.setup.part width) × (next < bits_of width) }
         ensures is { result ≡ read_on self.now.setup.part width cell next }
@@ -150,6 +155,7 @@ impl Control {
     }
 
     // Is a sample a clock that is heard?
+    #[inline(always)]
     fn hears(&self, s: Sample) -> bool
         ensures { result ≡ is_clock s self.now.state }
     {
@@ -157,6 +163,7 @@ impl Control {
     }
 
     // CS is low.
+    #[inline(always)]
     fn deselect(&mut self, s: Sample) -> Decision
         ensures { Turns self.old self.new result (deselected self.old.setup (ended self.old.setup s self.old.state) self.old.state) }
     {
@@ -171,6 +178,7 @@ impl Control {
     }
 
     // A clock that is heard.
+    #[inline(always)]
     fn clock(&mut self, s: Sample) -> Decision
         ensures { Turns self.old self.new result (clocked self.old.setup s self.old.state.phase self.old.state) }
     {
@@ -201,6 +209,7 @@ impl Control {
     }
 
     // Rules 2 to 4, in this order.
+    #[inline(always)]
     fn decide(&mut self, s: Sample) -> Decision
         ensures { Turns self.old self.new result (turned self.old.setup s self.old.state) }
     {
@@ -219,6 +228,7 @@ impl Control {
 
     // Ages the cycle, decides, and keeps the levels.
     #[tactic(auto, unfolding(crate::specs::Control::turn))]
+    #[inline(always)]
     fn advance(&mut self, s: Sample) -> Decision
         ensures { Turns self.old self.new result (turn self.old.setup self.old.state s) }
     {
@@ -230,6 +240,7 @@ impl Control {
     }
 
     // Does CS stay as it was, with no clock that is heard? Most samples are so, and decide nothing.
+    #[inline(always)]
     fn is_quiet(&self, s: Sample) -> bool
         ensures { result ≡ is_quiet s self.now.state }
     {
@@ -242,6 +253,7 @@ impl Control {
 
     // A quiet sample.
     #[tactic(auto, unfolding(crate::specs::Control::turn))]
+    #[inline(always)]
     fn pass(&mut self, s: Sample)
         requires { is_quiet s self.old.state ≡ true }
         ensures { Turns self.old self.new Nothing (turn self.old.setup self.old.state s) }
@@ -255,6 +267,7 @@ impl Control {
     }
 
     // One sample: what it decided.
+    #[inline(always)]
     pub fn step(&mut self, s: Sample) -> Decision
         ensures state { self.new.state ≡ (turn self.old.setup self.old.state s).state }
         ensures decision { result ≡ (turn self.old.setup self.old.state s).decision }

@@ -50,6 +50,7 @@ impl From<Incoming> for Phase {
 impl Incoming {
     // An instruction of its whole length.
     #[tactic(auto, using(crate::proofs::Lengths::least_length))]
+    #[inline(always)]
     pub(crate) fn instruction(self, permission: Permission) -> Decision
         requires { self.count ≡ length_of self.setup.part self.width (kind_at self.count self.bits) }
         ensures is { result ≡ instruction_at self.setup permission.enabled permission.pe self.width self.count self.bits }
@@ -66,6 +67,7 @@ impl Incoming {
     }
 
     // CS has fallen.
+    #[inline(always)]
     pub(crate) fn ending(self, permission: Permission) -> Decision
         ensures is { result ≡ ending self.setup permission.enabled permission.pe (Taking self.width self.count self.bits) }
         ensures fits { DecisionFits self.setup.part result }

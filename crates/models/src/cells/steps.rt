@@ -1,4 +1,4 @@
-//! One sample after the other.
+//! One sample after the other, inlined as the control's step is.
 ghost use Rattle.std.specs.Prelude.{◌≡◌};
 ghost use Rattle.chips.specs.Fits.{DecisionFits};
 ghost use Rattle.chips.specs.Machine.{written, out_of, step};
@@ -37,6 +37,7 @@ impl Cells<'_> {
     }
 
     // DO after a decision, with the control that made it, and DO before it; a number as `put` answers it.
+    #[inline(always)]
     fn show(&self, control: &Control, out: u8, decision: Decision) -> u8
         requires { DecisionFits self.now.part decision }
         ensures { result ≡ out_of decision control.now.state self.now.memory.now out }
@@ -49,6 +50,7 @@ impl Cells<'_> {
     }
 
     // One sample of a control over the bytes, with DO before it; the answer is DO after it, a number too.
+    #[inline(always)]
     pub(crate) fn advance(&mut self, control: &mut Control, out: u8, s: Sample) -> u8
         requires { self.old.part ≡ control.old.setup.part }
         ensures machine { machine_with control.new self.new.memory.now result ≡ step (machine_with control.old self.old.memory.now out) s }

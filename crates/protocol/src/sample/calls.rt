@@ -1,10 +1,13 @@
 //! Samples as bytes.
-ghost use Rattle.std.specs.Prelude.{◌≡◌};
+ghost use Rattle.std.specs.Prelude.{◌≡◌, max, fold};
 ghost use Rattle.std.specs.List.{position};
 ghost use Rattle.protocol.specs.Samples.{levels, strapped, byte_of, is_high, high_at, samples_checked};
 
 use crate::refusal::{Cause, Refusal};
 use crate::sample::{Sample, Straps};
+
+// The highest byte of a sample.
+const MOST: u8 = 31;
 
 // Bit 0 is CS, then SK, DI, ORG and PE; the other bits say nothing.
 impl From<u8> for Sample {
@@ -49,17 +52,27 @@ impl Straps {
     }
 }
 
+// The highest byte, 0 of none. It takes no branch for each, so that many are compared at once.
+fn highest(samples: &[u8]) -> u8
+    ensures { result ≡ fold max 0 samples.now }
+{
+    samples.iter().fold(0, |most: u8, byte| most.max(*byte))
+}
+
 fn high_position(samples: &[u8]) -> Option<usize>
     ensures { result ≡ position is_high samples.now }
 {
-    samples.iter().position(|byte| *byte > 31)
+    samples.iter().position(|byte| *byte > MOST)
 }
 
 // The place of the first sample byte above 31, or the length.
-#[tactic(auto, using(crate::proofs::High::first_or_len))]
+#[tactic(auto, using(crate::proofs::High::first_or_len, crate::proofs::High::none_high))]
 pub fn first_high(samples: &[u8]) -> usize
     ensures { result ≡ high_at samples.now }
 {
+    if highest(samples) <= MOST {
+        return samples.len();
+    }
     high_position(samples).unwrap_or(samples.len())
 }
 
