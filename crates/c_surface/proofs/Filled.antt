@@ -5,6 +5,7 @@ use Rattle.std.proofs.lemmas.Bool.{le-leb, lt-leb}
 use Rattle.protocol.specs.declared.list.List.{List as Held}
 use Rattle.protocol.specs.declared.refusal.Refusal.{Refusal}
 use Rattle.protocol.specs.Lists.{items, free, room, Added}
+use Rattle.protocol.proofs.Passed.{ok_not_err}
 use Rattle.frame_writer.specs.Written.{Writes}
 use Rattle.c_surface.specs.Filling.{fits, filled_with, frame_buffer, frame_length}
 
@@ -35,19 +36,14 @@ module _ (l m : Held ℕ) (old : List ℕ) (none : l.count ≡ 0) (is : l.slice.
   pub written_well : (frame : Result (List ℕ) Refusal) → Writes frame l m (Ok tt) →
       (Ok m.count ≡ frame_length frame old) × (m.slice.now ≡ frame_buffer frame old)
   written_well (Ok bytes) a = (rw (fits_in l m old bytes none is a, counted l m old bytes none is a), fills l m old bytes none is a)
-  written_well (Err d) a = let z : ◌≡◌ {A = ℕ} 0 1 = (let h = a.1 in cc) in absurd (omega arith)
+  written_well (Err d) a = absurd (ok_not_err tt d a.1)
 
-  -- or refused
+  -- or refused, which leaves the list as it was
   pub written_not : (frame : Result (List ℕ) Refusal) (e : Refusal) → Writes frame l m (Err e) →
-      (Err e ≡ frame_length frame old) × (m.slice.now ≡ frame_buffer frame old)
+      (m ≡ l) × (Err e ≡ frame_length frame old) × (m.slice.now ≡ frame_buffer frame old)
   written_not (Ok bytes) e a =
       let f = fits_not l m old bytes none is a.0 in
-      (rw (f, a.1), rw f (ap (λ (k : Held ℕ). k.slice.now) a.2 ∙ is))
+      (a.2, rw (f, a.1), rw f (ap (λ (k : Held ℕ). k.slice.now) a.2 ∙ is))
   written_not (Err d) e a =
       let h : d ≡ e = (let k = a.1 in cc) in
-      (rw h, ap (λ (k : Held ℕ). k.slice.now) a.0 ∙ is)
-
-  -- what is refused leaves the list as it was
-  pub list_kept : (frame : Result (List ℕ) Refusal) (e : Refusal) → Writes frame l m (Err e) → m ≡ l
-  list_kept (Ok bytes) e a = a.2
-  list_kept (Err d) e a = a.0
+      (a.0, rw h, ap (λ (k : Held ℕ). k.slice.now) a.0 ∙ is)

@@ -1,6 +1,6 @@
 -- A bit of an instruction with more than one bit to come is only appended.
 use Rattle.std.proofs.Common.{◌≡◌, ℕ, ◌+◌, ◌*◌, ◌<◌, Bool, true, false, ◌&&◌, refl, inl, inr, arith}
-use Rattle.std.proofs.lemmas.Bool.{lt-ltb, ne_eqb}
+use Rattle.std.proofs.lemmas.Bool.{and_right, lt-ltb, ne_eqb}
 use Rattle.protocol.specs.declared.parts.Width.{Width}
 use Rattle.protocol.specs.declared.sample.Sample.{Sample}
 use Rattle.protocol.specs.declared.settings.Setup.{Setup}
@@ -15,10 +15,6 @@ use Rattle.chips.specs.Control.{is_clock_edition, turn_to, in_phase, appended}
 use Rattle.protocol.specs.Samples.{bit_of}
 use Rattle.chips.specs.Fits.{Midway}
 
-and_no : (b : Bool) → (b && false) ≡ false
-and_no true = refl
-and_no false = refl
-
 bit_small : (di : Bool) → bit_of di < 2
 bit_small true = omega arith
 bit_small false = omega arith
@@ -31,7 +27,7 @@ module _ (setup : Setup) (s : Sample) (width : Width) (count bits : ℕ) (st : S
       appended setup s width count bits st ≡ turn_to Nothing (in_phase (Taking width (count + 1) (2 * bits + bit_of s.di)) st)
   unfolding appended
   only-appended a b d =
-      rw (lt-ltb _ _ a, ne_eqb _ _ b, ne_eqb _ _ d, and_no (is_clock_edition setup.edition))
+      rw (lt-ltb _ _ a, ne_eqb _ _ b, ne_eqb _ _ d, and_right (is_clock_edition setup.edition) false refl)
 
   pub midway : Midway setup.part width count bits →
       appended setup s width count bits st ≡ turn_to Nothing (in_phase (Taking width (count + 1) (2 * bits + bit_of s.di)) st)

@@ -61,7 +61,8 @@ pub enum Decision {
         cell: u16,
         next: u8,
     },
-    // an instruction is whole; `value` is 0 where it has no data
+    // an instruction is whole; its kind tells whether `cell` means something, and `value` is 0 where it has no data. An enum with
+    // fields by kind would ask for a match on the kind here too, beside the one in each use
     Instruction {
         kind: Kind,
         width: Width,

@@ -1,10 +1,11 @@
 -- What taking and reading the trace of a file come to, from empty lists.
-use Rattle.std.proofs.Common.{◌≡◌, ℕ, ◌-◌, ◌≤◌, List, [], ◌++◌, length, take, Ok, Err, Result, refl, ap, ◌∙◌, arith, le-leb}
+use Rattle.std.proofs.Common.{◌≡◌, ℕ, ◌-◌, ◌≤◌, List, [], ◌++◌, length, take, Ok, Err, Result, sym, refl, ap, ◌∙◌, arith, le-leb}
 use Rattle.protocol.specs.declared.list.List.{List as Held}
 use Rattle.protocol.specs.declared.refusal.Refusal.{Refusal}
 use Rattle.protocol.specs.declared.settings.Settings.{Settings}
 use Rattle.protocol.specs.declared.settings.Setup.{Setup}
 use Rattle.protocol.specs.Lists.{items, room}
+use Rattle.protocol.proofs.Passed.{ok_not_err}
 use Rattle.trace_file.specs.Form.{trace_of, in_places, Taken, TookTrace}
 use Rattle.trace_file.proofs.Reading.{trace_within}
 use Rattle.traces.specs.declared.entry.Entry.{Entry}
@@ -32,7 +33,7 @@ module _ (file : List ℕ) (l m : Held ℕ) (empty : Empty l) (limit : room l �
       rw (all_fit (trace_of file) (trace_within file)) at (rw p at t)
 
   refused-by : (x : Trace) (e : Refusal) → Taken x l m (Err e) → x ≡ Err e
-  refused-by (Ok t) e h = let z : ◌≡◌ {A = ℕ} 0 1 = let y = h.1 in cc in absurd (omega arith)
+  refused-by (Ok t) e h = absurd (ok_not_err t.0 e (sym h.1))
   refused-by (Err d) e h = let y = h.1 in let q : d ≡ e = cc in ap Err q
 
   given_by : (x : Trace) (settings : Settings) → Taken x l m (Ok settings) → x ≡ Ok (settings, items m)
@@ -40,7 +41,7 @@ module _ (file : List ℕ) (l m : Held ℕ) (empty : Empty l) (limit : room l �
       let s : settings ≡ t.0 = let y = h.1 in cc in
       let i : items m ≡ t.1 = h.0.adds ∙ ap (λ (xs : List ℕ). xs ++ t.1) (none_in l empty) in
       rw (s, i)
-  given_by (Err d) settings h = let z : ◌≡◌ {A = ℕ} 0 1 = let y = h.1 in cc in absurd (omega arith)
+  given_by (Err d) settings h = absurd (ok_not_err settings d h.1)
 
   pub refused : (e : Refusal) → TookTrace file l m (Err e) → trace_of file ≡ Err e
   refused e t = refused-by (trace_of file) e (taken (Err e) t)

@@ -9,7 +9,7 @@ use protocol::parts::Part;
 use protocol::sample::Straps;
 use protocol::settings::{Edition, Setup};
 
-// Its control, DO, and the levels of ORG and PE.
+// Its control, DO as the number that `put` answers, and the levels of ORG and PE.
 #[derive(Clone, Copy)]
 pub(crate) struct Live {
     pub(crate) control: Control,

@@ -23,7 +23,8 @@ impl Word {
         }
     }
 
-    // The bit that comes after `next` others, highest first.
+    // The bit that comes after `next` others, highest first; a number as `put` answers it.
+    #[inline(always)]
     pub(crate) fn bit(self, next: u8) -> u8
         requires { next < bits_of self.width }
         ensures { result ≡ data_bit self.width self.value next }

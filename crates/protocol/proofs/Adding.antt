@@ -1,6 +1,6 @@
 -- Adding to a list, bit by bit.
 use Rattle.std.proofs.Common.{◌≡◌, ℕ, ◌+◌, ◌≤◌, List, [], ◌++◌, length, take, drop, sym, refl, ap, ◌∙◌, append_assoc, add-zero, arith}
-use Rattle.std.proofs.lemmas.List.{append-nil, length-append, drop-drop}
+use Rattle.std.proofs.lemmas.List.{append-nil, length-append, length-take-le, drop-drop}
 use Rattle.std.proofs.lemmas.Slice.{take-put_mid, drop-put_mid}
 use Rattle.std.proofs.lemmas.Grind.{common_steps}
 use borrow.Rule.Slice.PartMut.{put_mid}
@@ -8,6 +8,9 @@ use Rattle.protocol.specs.declared.list.List.{List as Held}
 use Rattle.protocol.specs.Lists.{items, free, Added}
 
 module _ {T : Type 0} where
+  pub length-items : (l : Held T) → length (items l) ≡ l.count
+  length-items l = length-take-le l.count l.slice.now l.within
+
   pub added_none : (l : Held T) → Added l [] l
   added_none l =
       record { adds = sym (append-nil (items l)); past = refl; counts = sym (add-zero l.count); same_room = refl; same_slice = refl }

@@ -1,4 +1,5 @@
 pub mod High
+pub mod Passed
 pub mod Table
 pub mod Adding
 pub mod Spans

@@ -23,7 +23,7 @@ pub enum Cause {
     Unfinished,
 }
 
-// A cause with its place, 0 where the cause has none.
+// A cause with its place, 0 where the cause has none: C and texts tell each refusal as two numbers.
 #[derive(Clone, Copy, Drop, PartialEq, Eq, Debug)]
 pub struct Refusal {
     pub cause: Cause,

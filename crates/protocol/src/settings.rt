@@ -29,7 +29,8 @@ pub struct Settings {
     pub cycles: Cycles,
 }
 
-// A chip that exists.
+// A chip that exists. That it is offered is a clause of the conversion and no ghost field: the machine and its laws speak of every
+// part in both editions.
 #[derive(Clone, Copy)]
 pub struct Setup {
     pub part: Part,

@@ -4,20 +4,20 @@ use Rattle.std.proofs.lemmas.List.{append-nil, take_rest, length-take-le, length
 use Rattle.std.proofs.lemmas.Bool.{and_parts, leb-true, lt-leb, ltb-false}
 use Rattle.protocol.specs.declared.refusal.Refusal.{Refusal}
 use Rattle.protocol.specs.declared.settings.Settings.{Settings}
+use Rattle.protocol.proofs.Passed.{ok_not_err, passed_over, passed}
 use Rattle.trace_file.specs.Form.{Rest, bad_form, bind, marked, behind, settings_of, count_of, record_of, samples_up_to, samples_of, contents_of, too_long, trace_of}
 use Rattle.trace_file.specs.Steps.{samples_left}
 
 bind_ok : {A B : Type 0} (r : Result A Refusal) (next : A → Result B Refusal) (y : B) → Ok y ≡ bind r next → (x : A) × (Ok x ≡ r) × (Ok y ≡ next x)
 bind_ok (Ok x) next y h = (x, refl, h)
-bind_ok (Err e) next y h = let z : ◌≡◌ {A = ℕ} 0 1 = cc in absurd (omega arith)
+bind_ok (Err e) next y h = absurd (ok_not_err y e h)
 
 bind_same : {A B : Type 0} (r : Result A Refusal) (f g : A → Result B Refusal) → ((x : A) → Ok x ≡ r → f x ≡ g x) → bind r f ≡ bind r g
 bind_same (Ok x) f g h = h x refl
 bind_same (Err e) f g h = refl
 
 cond_ok : {A : Type 0} (b : Bool) (x y : A) (e : Refusal) → ◌≡◌ {A = Result A Refusal} (Ok x) (cond b (Ok y) (Err e)) → (b ≡ true) × (x ≡ y)
-cond_ok true x y e h = (refl, cc)
-cond_ok false x y e h = let z : ◌≡◌ {A = ℕ} 0 1 = cc in absurd (omega arith)
+cond_ok b x y e h = let p = passed b (Ok y) e x h in (p.0, (let k = p.1 in cc))
 
 -- a record that stands: it has four bytes and its samples, and what follows begins behind it
 pub record Stands (rest : Rest) (samples : List ℕ) (next : Rest) : Type 0 where
@@ -105,19 +105,13 @@ joined-within false samples all r n h k =
 
 samples_within : (most : ℕ) (rest : Rest) (all : List ℕ) → Ok all ≡ samples_up_to most rest → length all ≤ length rest.bytes
 unfolding samples_up_to
-samples_within zero rest all h = let z : ◌≡◌ {A = ℕ} 0 1 = cc in absurd (omega arith)
+samples_within zero rest all h = absurd (ok_not_err all _ h)
 samples_within (suc most) rest all h =
     let k = bind_ok (record_of rest) (joined_by (samples_up_to most)) all h in
     let s = (record_stands rest k.0.0 k.0.1 k.1).lengths in
     let j = joined-within (eqb (length k.0.1.bytes) 0) k.0.0 all (samples_up_to most k.0.1) (length k.0.1.bytes) k.2
     (samples_within most k.0.1) in
     omega (arith, s, j)
-
-cond-else :
-    {A : Type 0} (b : Bool) (x : A) (e : Refusal) (r : Result A Refusal) → ◌≡◌ {A = Result A Refusal} (Ok x) (cond b (Err e) r) →
-    (b ≡ false) × ◌≡◌ {A = Result A Refusal} (Ok x) r
-cond-else true x e r h = let z : ◌≡◌ {A = ℕ} 0 1 = cc in absurd (omega arith)
-cond-else false x e r h = (refl, h)
 
 same-samples :
     (s t : Settings) (a b : List ℕ) → ◌≡◌ {A = Result (Settings × List ℕ) Refusal} (Ok (s, a)) (Ok (t, b)) → a ≡ b
@@ -126,8 +120,8 @@ same-samples s t a b h = let e : (s, a) ≡ (t, b) = cc in ap (λ (q : Settings 
 pub trace_within : (file : List ℕ) (settings : Settings) (samples : List ℕ) → Ok (settings, samples) ≡ trace_of file → length samples ≤ 65536
 unfolding trace_of
 trace_within file settings samples h =
-    let c = cond-else (too_long file) (settings, samples) (bad_form 65536) (contents_of file) h in
-    let k = bind_ok (settings_of file) _ (settings, samples) c.1 in
+    let c = passed_over (too_long file) (bad_form 65536) (contents_of file) (settings, samples) h in
+    let k = bind_ok (settings_of file) _ (settings, samples) (sym c.1) in
     let a = cond_ok (leb 10 (length file) && marked 1 file) k.0 _ _ k.1 in
     let m = bind_ok (samples_of k.0.1) _ (settings, samples) k.2 in
     let e : samples ≡ m.0 = same-samples settings k.0.0 samples m.0 m.2 in

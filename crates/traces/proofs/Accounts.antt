@@ -1,6 +1,6 @@
 -- The entries of a trace account for the bytes of the machine that runs it.
-use Rattle.std.proofs.Common.{◌≡◌, ℕ, ◌+◌, List, [], ◌∷◌, ◌++◌, take, drop, Ok, sym, refl, ap, ◌∙◌, arith}
-use Rattle.std.proofs.lemmas.List.{append-nil, take-append-drop, drop_at, length-take-le}
+use Rattle.std.proofs.Common.{◌≡◌, ℕ, ◌+◌, List, [], ◌∷◌, ◌++◌, take, drop, Ok, sym, refl, ap, ◌∙◌}
+use Rattle.std.proofs.lemmas.List.{append-nil, take-append-drop, drop_at}
 use Rattle.protocol.specs.declared.instruction.Kind.{Kind}
 use Rattle.protocol.specs.declared.instruction.Kind.TheVariants.{Read, Write, Erase, Wen, Wds, Eral, Wrall}
 use Rattle.protocol.specs.declared.list.List.{List as Held}
@@ -9,6 +9,8 @@ use Rattle.protocol.specs.declared.parts.Width.{Width}
 use Rattle.protocol.specs.declared.settings.Setup.{Setup}
 use Rattle.protocol.specs.Lists.{items, room}
 use Rattle.protocol.specs.Samples.{levels}
+use Rattle.protocol.proofs.Adding.{length-items}
+use Rattle.protocol.proofs.Passed.{ok_not_err}
 use Rattle.chips.specs.declared.state.Decision.{Decision}
 use Rattle.chips.specs.declared.state.Decision.TheVariants.{Nothing, Start, Address, Data, Instruction, WrongCount}
 use Rattle.chips.specs.Control.{turn}
@@ -54,7 +56,7 @@ accounts m start i (b ∷ bs) =
 
 none_left : (u : Unit {0}) (es : List Entry) → Ok u ≡ answer_of es → es ≡ []
 none_left u [] h = refl
-none_left u (e ∷ es) h = let z : ◌≡◌ {A = ℕ} 0 1 = cc in absurd (omega arith)
+none_left u (e ∷ es) h = absurd (ok_not_err u _ h)
 
 -- where the reader refuses nothing, the entries that came to the list are those of the trace
 new_is : (setup : Setup) (samples : List ℕ) (l m : Held Entry) (u : Unit {0}) → Listed setup samples l m (Ok u) → new_in l m ≡ entries_of setup samples
@@ -64,7 +66,7 @@ new_is setup samples l m u r =
     let t : take (room l) all ++ drop (room l) all ≡ all = take-append-drop (room l) all in
     let i : items m ≡ all = r.holds ∙ sym (append-nil _) ∙ ap (λ (x : List Entry). take (room l) all ++ x) (sym e) ∙ t in
     ap (λ (x : List Entry). drop l.count x) i
-    ∙ drop_at (items l) (entries_of setup samples) l.count (length-take-le l.count l.slice.now l.within)
+    ∙ drop_at (items l) (entries_of setup samples) l.count (length-items l)
 
 -- from power-up: the bytes are the old ones changed by exactly the entries that were carried out, in order
 pub accounted : (setup : Setup) (samples bytes : List ℕ) →

@@ -1,12 +1,13 @@
 -- The reader's loop: what the entries that are still to come do to the list.
 use Rattle.std.proofs.Common.{◌≡◌, ℕ, ◌+◌, ◌-◌, ◌<◌, ◌≤◌, List, [], ◌∷◌, ◌++◌, length, get_or, take, drop, Ok, Err, sym, refl, ap, ◌∙◌, append_assoc, arith}
-use Rattle.std.proofs.lemmas.List.{append-nil, at_drop_more, at_drop_all, drop-drop, take_at, drop_at, take_all, drop_all, length-take-le, length-take, length-append}
+use Rattle.std.proofs.lemmas.List.{append-nil, at_drop_more, at_drop_all, drop-drop, take_at, drop_at, take_all, drop_all, length-take, length-append}
 use Rattle.protocol.specs.declared.list.List.{List as Held}
 use Rattle.protocol.specs.declared.refusal.Cause.TheVariants.{NoRoom}
 use Rattle.protocol.specs.declared.settings.Setup.{Setup}
 use Rattle.protocol.specs.Inputs.{Checked}
 use Rattle.protocol.specs.Lists.{items, free, room, Added}
 use Rattle.protocol.specs.Refusals.{refusal}
+use Rattle.protocol.proofs.Adding.{length-items}
 use Rattle.protocol.specs.Samples.{levels}
 use Rattle.chips.specs.declared.state.State.{State}
 use Rattle.chips.specs.Control.{turn}
@@ -23,13 +24,10 @@ pub record Enters (es : List Entry) (l m : Held Entry) (r : Checked) : Type 0 wh
   pub same_room : room m ≡ room l
   pub same_slice : m.slice.ghost_name ≡ l.slice.ghost_name
 
-counted : (l : Held Entry) → length (items l) ≡ l.count
-counted l = length-take-le l.count l.slice.now l.within
-
 -- no entry comes any more, one has no room, or one comes
 pub enters_none : (l : Held Entry) → Enters [] l l (Ok tt)
 enters_none l =
-    let x : length (items l) ≤ room l = rw (counted l) l.within in
+    let x : length (items l) ≤ room l = rw (length-items l) l.within in
     record {
       holds = rw (append-nil (items l)) (sym (take_all (room l) (items l) x));
       past = refl;
@@ -40,7 +38,7 @@ enters_none l =
 
 pub enters_full : (e : Entry) (es : List Entry) (l : Held Entry) → room l < l.count + 1 → Enters (e ∷ es) l l (Err (refusal NoRoom e.last))
 enters_full e es l f =
-    let x : length (items l) ≡ room l = rw (counted l) (omega (arith, f, l.within)) in
+    let x : length (items l) ≡ room l = rw (length-items l) (omega (arith, f, l.within)) in
     record {
       holds = sym (take_at (items l) (e ∷ es) (room l) x);
       past = refl;
@@ -58,7 +56,7 @@ pub enters_more : (e : Entry) (es : List Entry) (l k m : Held Entry) (r : Checke
 enters_more e es l k m r a h =
     let all : items k ++ es ≡ items l ++ (e ∷ es) = rw (a.adds, append_assoc) in
     let n : k.count ≤ m.count =
-    omega (arith, counted m, ap length h.holds, length-take (room k) (items k ++ es), length-append (items k) es, counted k, k.within) in
+    omega (arith, length-items m, ap length h.holds, length-take (room k) (items k ++ es), length-append (items k) es, length-items k, k.within) in
     record {
       holds = rw (← a.same_room, ← all) h.holds;
       past = h.past ∙ same_beyond k.slice.now l.slice.now k.count m.count (a.past ∙ drop-drop 1 l.count l.slice.now ∙ ap (λ j. drop j l.slice.now) (sym a.counts)) n;

@@ -1,5 +1,5 @@
 -- What the checks of replay say to the reader and to the model.
-use Rattle.std.proofs.Common.{◌≡◌, ℕ, Bool, true, false, cond, eqb, ltb, List, length, Ok, Err, Result, sym, refl, ap, ◌∙◌, arith}
+use Rattle.std.proofs.Common.{◌≡◌, ℕ, true, false, cond, eqb, ltb, List, length, Ok, Err, Result, sym, ap, ◌∙◌}
 use Rattle.protocol.specs.declared.refusal.Cause.TheVariants.{BufferLength}
 use Rattle.protocol.specs.declared.refusal.Refusal.{Refusal}
 use Rattle.protocol.specs.declared.settings.Settings.{Settings}
@@ -8,6 +8,7 @@ use Rattle.protocol.specs.Chosen.{setup_of}
 use Rattle.protocol.specs.Parts.{bytes_of}
 use Rattle.protocol.specs.Refusals.{refusal}
 use Rattle.protocol.specs.Samples.{high_at}
+use Rattle.protocol.proofs.Passed.{passed_over, passed}
 use Rattle.chips.specs.Machine.{fresh_machine, run_on, outs}
 use Rattle.chips.specs.Pins.{Pins}
 use Rattle.protocol.specs.declared.sample.Straps.{Straps}
@@ -19,15 +20,6 @@ use Rattle.traces.specs.Reading.{readable, Listed, WasRead}
 use Rattle.traces.specs.Replaying.{replayable, Accounts}
 use Rattle.traces.proofs.Accounts.{account}
 
--- a test that would have refused did not
-passed-by : {A E : Type 0} (b : Bool) (e : E) (r : Result A E) (x : A) → Ok x ≡ cond b (Err e) r → (b ≡ false) × (r ≡ Ok x)
-passed-by true e r x h = let z : ◌≡◌ {A = ℕ} 0 1 = cc in absurd (omega arith)
-passed-by false e r x h = (refl, sym h)
-
-passed : {A E : Type 0} (b : Bool) (r : Result A E) (e : E) (x : A) → Ok x ≡ cond b r (Err e) → (b ≡ true) × (r ≡ Ok x)
-passed true r e x h = (refl, sym h)
-passed false r e x h = let z : ◌≡◌ {A = ℕ} 0 1 = cc in absurd (omega arith)
-
 exists : (r : Result Setup Refusal) (size : ℕ) (setup : Setup) → sized r size ≡ Ok setup → r ≡ Ok setup
 exists (Ok s) size setup h = (passed (eqb size (bytes_of s.part)) (Ok s) _ setup (sym h)).1
 exists (Err e) size setup h = h
@@ -36,7 +28,7 @@ module _ (settings : Settings) (setup : Setup) (memory samples buffer : List ℕ
     (e : Ok setup ≡ replayable settings (length memory) samples (length buffer)) where
   no_high : (ltb (high_at samples) (length samples) ≡ false)
       × (cond (eqb (length buffer) (length samples)) (fitted settings (length memory)) (Err (refusal BufferLength 0)) ≡ Ok setup)
-  no_high = passed-by _ _ _ setup e
+  no_high = passed_over _ _ _ setup e
 
   same_length : (eqb (length buffer) (length samples) ≡ true) × (fitted settings (length memory) ≡ Ok setup)
   same_length = passed _ _ _ setup (sym no_high.1)

@@ -29,23 +29,18 @@ fn data(kind: Kind, value: u16) -> Option<u16>
 }
 
 impl StartBit {
-    // Before any start bit came.
+    // Before any start bit came. No entry comes before one, so that an `Option` would ask for a case that never is.
     pub(crate) const NONE: StartBit = StartBit {
         width: Width::Sixteen,
         place: 0,
     };
 
-    // The entry that the decision of the sample at `place` makes, if any. A wrong count has the width of its start bit.
-    pub(crate) fn enter(&mut self, place: usize, decision: Decision) -> Option<Entry>
-        ensures next { self.new ≡ start_after self.old place decision }
-        ensures made { result ≡ entry_of self.old place decision }
+    // The entry that the decision of the sample at `last` makes, if any. A wrong count has the width of its start bit.
+    fn entry(self, last: usize, decision: Decision) -> Option<Entry>
+        ensures { result ≡ entry_of self last decision }
     {
         let (kind, address, data, width, verdict) = match decision {
-            Decision::Nothing | Decision::Data { .. } => return None,
-            Decision::Start { width } => {
-                *self = StartBit { width, place };
-                return None;
-            }
+            Decision::Nothing | Decision::Start { .. } | Decision::Data { .. } => return None,
             Decision::Address { width, cell } => (
                 Some(Kind::Read),
                 Some(cell),
@@ -74,8 +69,19 @@ impl StartBit {
             data,
             width,
             first: self.place,
-            last: place,
+            last,
             verdict,
         })
+    }
+
+    // One decision more, at `place`: a start bit is kept, and another may make an entry.
+    pub(crate) fn enter(&mut self, place: usize, decision: Decision) -> Option<Entry>
+        ensures next { self.new ≡ start_after self.old place decision }
+        ensures made { result ≡ entry_of self.old place decision }
+    {
+        if let Decision::Start { width } = decision {
+            *self = StartBit { width, place };
+        }
+        self.entry(place, decision)
     }
 }

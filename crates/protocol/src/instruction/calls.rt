@@ -138,7 +138,7 @@ impl Instruction {
         }
     }
 
-    // 0 where there is none.
+    // 0 where there is none: bits of a frame that do not matter are 0.
     pub fn address(self) -> u16
         ensures { result ≡ address_in self }
     {
@@ -150,7 +150,7 @@ impl Instruction {
         }
     }
 
-    // Its data, 0 where it has none.
+    // Its data, 0 where it has none, for the same reason.
     pub fn value(self) -> u16
         ensures { result ≡ value_in self }
     {

@@ -1,7 +1,7 @@
 use Rattle.std.proofs.Common.{◌≡◌, ℕ, Err, ◌∙◌, ap, rules}
 use Rattle.protocol.specs.declared.list.List.{List as Held}
 use Rattle.frame_writer.specs.Written.{written}
-use Rattle.c_surface.proofs.Filled.{written_well, written_not, list_kept}
+use Rattle.c_surface.proofs.Filled.{written_well, written_not}
 use Rattle.c_surface.proofs.frames.write_into.Goals as goal
 
 pub returns : goal.returns
@@ -16,7 +16,6 @@ returns-in_err-write_frame c =
     let m = c.write_frame.new.samples in
     let e = c.in_err-write_frame.field-0.0 in
     let k = written_not c.new-list.result m c.args.samples.now c.new-list.ensures.count c.new-list.ensures.places frame e c.in_err-write_frame.ensures in
-    let same = list_kept c.new-list.result m c.args.samples.now c.new-list.ensures.count c.new-list.ensures.places frame e c.in_err-write_frame.ensures in
-    let name = ap (λ (x : Held ℕ). x.slice.ghost_name) same in
+    let name = ap (λ (x : Held ℕ). x.slice.ghost_name) k.0 in
     let r : c.from_residual.result ≡ Err e = search rules in
-    record { length = r ∙ k.0; buffer = (let b = k.1 in search rules) }
+    record { length = r ∙ k.1; buffer = (let b = k.2 in search rules) }
