@@ -29,7 +29,7 @@ mod tests {
         pe: false,
     };
 
-    // The frame of WEN on a 46.
+    // The frame of WEN on a 46, and a small model below; another test crate has the like, and a crate for both would be longer.
     const WEN: [u8; 21] = [
         25, 29, 31, 25, 27, 25, 27, 29, 31, 29, 31, 25, 27, 25, 27, 25, 27, 25, 27, 25, 24,
     ];

@@ -27,6 +27,7 @@ impl<'t, 's, C: Chip> Chip for Recorder<'t, 's, C> {
     }
 
     fn put(&mut self, cs: bool, sk: bool, di: bool) -> u8 {
+        // the facts are told as numbers: the driver makes these two tests too, and a function for both would be as long as they are
         let (_, org, pe) = self.chip.facts();
         let straps = Straps {
             org: org == 1,
