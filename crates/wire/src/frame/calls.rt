@@ -9,7 +9,7 @@ use crate::frame::Frame;
 use protocol::instruction::{Instruction, Kind};
 use protocol::parts::{Organisation, Width};
 
-// A function and no `From`, which would not tell the bound beside the value.
+// A function and no `From`: `Kind` is of another crate and so is `u64`, and Rust lets no third crate write a `From` between them.
 fn opcode(kind: Kind) -> u64
     ensures is { result ≡ frames.opcode kind }
     ensures most { result ≤ 3 }
