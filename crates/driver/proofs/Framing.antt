@@ -1,21 +1,13 @@
--- A frame from its parts.
-use Rattle.std.proofs.Common.{◌≡◌, ℕ, ◌*◌, [], refl, ◌∙◌}
+-- The frame of a READ from its parts.
+use Rattle.std.proofs.Common.{◌≡◌, ℕ, ◌*◌, [], refl}
 use Rattle.protocol.specs.declared.instruction.Instruction.TheVariants.{Read}
 use Rattle.protocol.specs.declared.parts.Part.{Part}
 use Rattle.protocol.specs.declared.parts.Width.{Width}
 use Rattle.protocol.specs.Parts.{bits_of}
-use Rattle.chips.specs.Pins.{Pins, Put}
-use Rattle.chips.specs.Seen.{Seen}
 use Rattle.wire.specs.Fields.{count_in, code_in}
 use Rattle.wire.specs.Frames.{clocks, ending, opening, read_opening, frame_of}
-use Rattle.driver.specs.Sent.{told}
-use Rattle.driver.proofs.Tells.{told-append, told-clocks, told-opening, told-pins}
-
-module _ {V : Type 0} (next : V → Pins → Put → V) (x : Seen V) where
-  -- opening, zero bits, ending
-  pub joined : (n code zeros : ℕ) →
-      told next x (opening n code (clocks zeros 0 ending)) ≡ told next (told next (told next x (opening n code [])) (clocks zeros 0 [])) ending
-  joined n code zeros = told-opening next x n code (clocks zeros 0 ending) ∙ told-clocks next (told next x (opening n code [])) zeros 0 ending
+use Rattle.wire.proofs.Clocking.{joined}
+use Rattle.wire.proofs.Tells.{told-append, told-pins}
 
 pub read_parts : (part : Part) (width : Width) (address words : ℕ) →
     frame_of part width (Read address words)

@@ -1,4 +1,3 @@
-pub mod Tells
 pub mod Steps
 pub mod Framing
 pub mod Judging

@@ -4,16 +4,14 @@ use native.Mathlib.Nat.{zero-div}
 use Rattle.std.proofs.lemmas.Grind.{pow_more, common_steps}
 use Rattle.chips.specs.Pins.{Pins, Put, put_on, do_of}
 use Rattle.chips.specs.Seen.{Seen}
-use Rattle.wire.specs.Frames.{selected, bit_at, clock, clocks}
+use Rattle.wire.specs.Frames.{selected, clock, clocks}
 use Rattle.wire.specs.Hearing.{zero_bit, level_of, heard, after_bits, words_heard}
 use Rattle.wire.specs.Polling.{shows_busy, tries, ready_in}
 use Rattle.wire.specs.Runs.{run}
-use Rattle.wire.proofs.Hears.{heard_is_run, words_heard-more}
-use Rattle.driver.specs.Sent.{told}
-use Rattle.driver.proofs.Tells.{told-clocks, told-pins}
-
-bit_at_zero : (n : ℕ) → bit_at 0 n ≡ false
-bit_at_zero n = rw zero-div
+use Rattle.wire.proofs.Clocking.{no_bits}
+use Rattle.wire.proofs.Hears.{bit_at_zero, heard_is_run, words_heard-more}
+use Rattle.wire.specs.Sent.{told}
+use Rattle.wire.proofs.Tells.{told-clocks, told-pins}
 
 clocks_add : (m n : ℕ) → clocks (m + n) 0 [] ≡ clocks m 0 (clocks n 0 [])
 unfolding clocks
@@ -21,15 +19,6 @@ clocks_add zero n = rw zero-add
 clocks_add (suc m) n = rw (suc-add, bit_at_zero (m + n), bit_at_zero m, clocks_add m n)
 
 module _ {V : Type 0} (next : V → Pins → Put → V) (x : Seen V) where
-  pub no_bits : (k code : ℕ) → k ≤ 0 → told next x (clocks k code []) ≡ x
-  unfolding told clocks
-  no_bits k code h = let z : k ≡ 0 = omega arith in rw z
-
-  pub one_bit : (k code : ℕ) → 0 < k →
-      told next x (clocks k code []) ≡ told next (told next x (clock (bit_at code (k - 1)) [])) (clocks (k - 1) code [])
-  unfolding told clocks
-  one_bit k code h = let s : k ≡ suc (k - 1) = omega arith in ap (λ (j : ℕ). told next x (clocks j code [])) s
-
   -- after i of n zero bits
   pub one_zero : (n i : ℕ) → i < n → told next x (clocks (n - i) 0 []) ≡ told next (told next x (clock false [])) (clocks (n - (i + 1)) 0 [])
   unfolding told clocks
@@ -91,8 +80,6 @@ module _ (p : Pins) where
 -- i bits of a word, with more to come
 pub word_below : (v i : ℕ) → v < 2 ^ i → i < 16 → v < 32768
 word_below v i h l = let m : 2 ^ i ≤ 2 ^ 15 = pow_mono {j = 15} (omega arith) in omega arith
-
-pub ruleset bits = (no_bits, one_bit, one_zero)
 
 pub ruleset looks = (one_look, last_look, look_pins, no_look, more_ready, none_ready)
 

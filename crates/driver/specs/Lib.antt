@@ -1,4 +1,3 @@
-pub mod Sent
 pub mod Outcome
 pub mod Shapes
 pub mod Checks

@@ -3,7 +3,7 @@ use Rattle.std.specs.Prelude.{Bool, List, Ok, Err, Result}
 use Rattle.protocol.specs.declared.refusal.Refusal.{Refusal}
 use Rattle.chips.specs.Pins.{Pins, Put}
 use Rattle.chips.specs.Seen.{Seen}
-use Rattle.driver.specs.Sent.{told}
+use Rattle.wire.specs.Sent.{told}
 
 -- a driver between calls: has it greeted its chip, does it count as open, and the chip
 pub record State (V : Type 0) : Type 0 where

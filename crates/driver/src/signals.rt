@@ -1,19 +1,19 @@
-//! What goes over the wire: frames, polling and the words of a READ.
-ghost use Rattle.std.specs.Prelude.{◌≡◌, ◌*◌, ◌≤◌, true, false, not, [], ◌∷◌, ◌++◌, length};
+//! Frames, polling and the words of a READ.
+ghost use Rattle.std.specs.Prelude.{◌≡◌, ◌*◌, ◌≤◌, false, not, [], ◌∷◌, ◌++◌, length};
 ghost use Rattle.protocol.specs.Parts.{bits_of};
 ghost use Rattle.protocol.specs.declared.instruction.Instruction.TheVariants.{Read};
 ghost use Rattle.chips.specs.Pins.{do_of, put_on};
-ghost use Rattle.wire.specs.Frames as frames;
-ghost use Rattle.wire.specs.Frames.{selected, clock, clocks, rest, ending, opening, read_opening, frame_of};
+ghost use Rattle.wire.specs.Frames.{selected, clock, clocks, rest, read_opening, frame_of};
 ghost use Rattle.wire.specs.Hearing.{zero_bit, level_of, heard, words_heard};
 ghost use Rattle.wire.specs.Polling.{shows_busy, tries, ready_in, polls, is_ready};
 ghost use Rattle.wire.specs.Runs.{run};
-ghost use Rattle.driver.specs.Sent.{Sends};
+ghost use Rattle.wire.specs.Sent.{Sends};
 
 use chips::chip::Chip;
 use protocol::instruction::Instruction;
 use protocol::parts::{Organisation, Width};
 use wire::frame::Frame;
+use wire::signals::{clock_bit, end, end_frame, select};
 
 // How often a polling looks at most.
 const TRIES: u16 = 4096;
@@ -23,89 +23,11 @@ const BUSY: u8 = 0;
 
 const HIGH: u8 = 1;
 
-// One idle sample.
-#[tactic(auto, unfolding(crate::specs::Sent::told))]
-pub(crate) fn idle<C: Chip>(chip: &mut C)
-    ensures { Sends C.Chip chip.old chip.new (frames.idle ∷ []) }
-{
-    let _ = chip.put(false, false, false);
-}
-
-// What ends a frame and a polling.
-fn end<C: Chip>(chip: &mut C)
-    ensures { Sends C.Chip chip.old chip.new rest }
-{
-    idle(chip);
-}
-
-// CS alone high; the answer is DO.
-#[tactic(auto, unfolding(crate::specs::Sent::told))]
-fn select<C: Chip>(chip: &mut C) -> u8
-    ensures sent { Sends C.Chip chip.old chip.new (selected ∷ []) }
-    ensures answer { result ≡ do_of (put_on (C.Chip.meaning chip.old) selected) }
-{
-    chip.put(true, false, false)
-}
-
-// One bit, with SK low and then high; the answer is DO with SK high.
-#[tactic(auto, unfolding(crate::specs::Sent::told))]
-fn clock_bit<C: Chip>(chip: &mut C, bit: bool) -> u8
-    ensures sent { Sends C.Chip chip.old chip.new (clock bit []) }
-    ensures answer { result ≡ do_of (C.Chip.meaning chip.new) }
-{
-    let _ = chip.put(true, false, bit);
-    chip.put(true, true, bit)
-}
-
-// The lowest bits of a number, the highest first.
-#[tactic(auto, using(crate::proofs::Steps::bits))]
-fn clock_bits<C: Chip>(chip: &mut C, count: u8, code: u64)
-    requires { count ≤ 64 }
-    ensures { Sends C.Chip chip.old chip.new (clocks count code []) }
-{
-    for place in (0..count).rev() {
-        let _ = clock_bit(chip, (code >> place) % 2 == 1);
-    }
-}
-
-#[tactic(auto, using(crate::proofs::Steps::bits))]
-fn clock_zeros<C: Chip>(chip: &mut C, count: u32)
-    ensures { Sends C.Chip chip.old chip.new (clocks count 0 []) }
-{
-    for _ in 0..count {
-        let _ = clock_bit(chip, false);
-    }
-}
-
-// CS alone, the start bit, and the bits of an instruction.
-#[tactic(auto, unfolding(crate::specs::Sent::told))]
-fn start_frame<C: Chip>(chip: &mut C, frame: Frame)
-    requires { frame.bits ≤ 64 }
-    ensures { Sends C.Chip chip.old chip.new (opening frame.bits frame.code []) }
-{
-    let _ = select(chip);
-    let _ = clock_bit(chip, true);
-    clock_bits(chip, frame.bits, frame.code);
-}
-
-// CS alone, and the end.
-#[tactic(auto, unfolding(crate::specs::Sent::told))]
-fn end_frame<C: Chip>(chip: &mut C)
-    ensures { Sends C.Chip chip.old chip.new ending }
-{
-    let _ = select(chip);
-    end(chip);
-}
-
 // The frame of an instruction.
-#[tactic(auto, using(crate::proofs::Framing::frames))]
 pub(crate) fn send<C: Chip>(chip: &mut C, organisation: Organisation, instruction: Instruction)
     ensures { Sends C.Chip chip.old chip.new (frame_of organisation.part organisation.width instruction) }
 {
-    let frame = Frame::new(organisation, instruction);
-    start_frame(chip, frame);
-    clock_zeros(chip, frame.zeros);
-    end_frame(chip);
+    Frame::new(organisation, instruction).send(chip);
 }
 
 // One look at a chip that may be programming: is it ready?
@@ -149,7 +71,7 @@ pub(crate) fn poll<C: Chip>(chip: &mut C) -> bool
 }
 
 // A zero bit, and the bit that comes out under it.
-#[tactic(auto, unfolding(crate::specs::Sent::told))]
+#[tactic(auto, unfolding(wire::specs::Sent::told))]
 fn hear_bit<C: Chip>(chip: &mut C) -> u16
     ensures bit { result ≡ level_of (do_of (zero_bit (C.Chip.meaning chip.old))) }
     ensures sent { Sends C.Chip chip.old chip.new (clock false []) }
@@ -201,7 +123,7 @@ pub(crate) fn fetch<C: Chip>(
     ensures sent { Sends C.Chip chip.old chip.new (frame_of organisation.part organisation.width (Read address (length words.old))) }
 {
     let opening = Instruction::Read { address, words: 0 };
-    start_frame(chip, Frame::new(organisation, opening));
+    Frame::new(organisation, opening).start(chip);
     hear_words(chip, organisation.width, words);
     end_frame(chip);
 }

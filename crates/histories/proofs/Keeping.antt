@@ -13,7 +13,7 @@ use Rattle.wire.specs.Polling.{polls}
 use Rattle.wire.proofs.Keeping.{put_keeps_fits}
 use Rattle.driver.specs.Checks.{Checked, greetable, admitted, changeable}
 use Rattle.driver.specs.Outcome.{State, Outcome, outcome, then, bind, sent}
-use Rattle.driver.specs.Sent.{told}
+use Rattle.wire.specs.Sent.{told}
 use Rattle.driver.specs.Calls as calls
 use Rattle.histories.specs.declared.call.Call.{Call}
 use Rattle.histories.specs.declared.call.Call.TheVariants.{Greet, Settle, Open, Shut, Read, Run, Write, Erase, Fill, Clear}

@@ -24,7 +24,7 @@ use Rattle.wire.specs.Runs.{run}
 use Rattle.wire.proofs.Carrying.{frame_carries_out, read_opens_cell}
 use Rattle.wire.proofs.Hears.{heard_is_run, read_answers_cells, read_rests}
 use Rattle.wire.proofs.Polls.{poll_rests, poll_ready_iff}
-use Rattle.driver.proofs.Tells.{told-pins}
+use Rattle.wire.proofs.Tells.{told-pins}
 use Rattle.driver.specs.Checks.{cells_on}
 use Rattle.driver.specs.Outcome.{State, Outcome, state, outcome, sent}
 use Rattle.driver.specs.Calls as calls

@@ -12,7 +12,7 @@ use Rattle.wire.specs.Frames.{idle}
 use Rattle.wire.specs.Polling.{polls, is_ready}
 use Rattle.driver.specs.Checks.{Checked, greetable, admitted, changeable}
 use Rattle.driver.specs.Outcome.{State, Outcome, state, outcome, then, bind, sent, noted}
-use Rattle.driver.specs.Sent.{told}
+use Rattle.wire.specs.Sent.{told}
 use Rattle.driver.specs.Calls as calls
 use Rattle.histories.specs.declared.call.Call.{Call}
 use Rattle.histories.specs.declared.call.Call.TheVariants.{Greet, Settle, Open, Shut, Read, Run, Write, Erase, Fill, Clear}

@@ -19,7 +19,7 @@ use Rattle.wire.specs.Laws.{HeardIsRun, AfterWords, WordsHeardMore, ReadAnswersC
 use Rattle.wire.proofs.Cells.{some_bits, cell_below}
 
 -- a bit of 0 is 0
-bit_at_zero : (n : ℕ) → bit_at 0 n ≡ false
+pub bit_at_zero : (n : ℕ) → bit_at 0 n ≡ false
 bit_at_zero n = rw zero-div
 
 pub heard_is_run : HeardIsRun
@@ -44,10 +44,6 @@ words_heard-more p bits (suc n) =
     rw (suc-add, e, after_add p bits (n * bits)) (ap (λ ws. heard bits 0 p ∷ ws) (words_heard-more (after_bits bits p) bits n))
 
 -- one bit more
-pub after_more : (p : Pins) (n : ℕ) → after_bits (n + 1) p ≡ zero_bit (after_bits n p)
-unfolding after_bits
-after_more p n = after_add p n 1
-
 pub heard-more : (p : Pins) (n bits : ℕ) → heard (n + 1) bits p ≡ 2 * heard n bits p + level_of (do_of (after_bits (n + 1) p))
 unfolding heard after_bits
 heard-more p zero bits = refl

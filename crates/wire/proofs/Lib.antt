@@ -1,4 +1,5 @@
 pub mod Bits
+pub mod Shifting
 pub mod Coded
 pub mod Taking
 pub mod Carrying
@@ -8,3 +9,5 @@ pub mod Keeping
 pub mod Hears
 pub mod Cells
 pub mod Whole
+pub mod Tells
+pub mod Clocking

@@ -12,6 +12,7 @@ use crate::signals;
 use chips::chip::Chip;
 use protocol::instruction::Instruction;
 use protocol::refusal::{Cause, Refusal};
+use wire::signals::idle;
 
 impl<C: Chip> Driver<C> {
     // Polls; a chip that is still programming is refused for the cause given.
@@ -26,12 +27,12 @@ impl<C: Chip> Driver<C> {
     }
 
     // Brings a chip in any state to rest, shut for writing.
-    #[tactic(auto, using(crate::proofs::Tells::keeps))]
+    #[tactic(auto, using(wire::proofs::Tells::keeps))]
     pub fn greet(&mut self) -> Result<(), Refusal>
         ensures { outcome result (held C.Chip self.new) ≡ calls.greet C.Chip.next (held C.Chip self.old) }
     {
         let (organisation, _) = self.shape()?;
-        signals::idle(&mut self.chip);
+        idle(&mut self.chip);
         self.poll(Cause::Busy)?;
         signals::send(&mut self.chip, organisation, Instruction::Wds);
         self.greeted = true;
@@ -49,7 +50,7 @@ impl<C: Chip> Driver<C> {
     }
 
     // Sends WEN or WDS, and keeps in the record which.
-    #[tactic(auto, using(crate::proofs::Tells::keeps))]
+    #[tactic(auto, using(wire::proofs::Tells::keeps))]
     fn turn(&mut self, opened: bool, instruction: Instruction) -> Result<(), Refusal>
         ensures { outcome result (held C.Chip self.new) ≡ turned C.Chip.next opened instruction (held C.Chip self.old) }
     {
@@ -83,7 +84,7 @@ impl<C: Chip> Driver<C> {
     }
 
     // Fills the words from consecutive cells, with cell 0 after the last. A refusal leaves them as they are.
-    #[tactic(auto, using(crate::proofs::Tells::keeps))]
+    #[tactic(auto, using(wire::proofs::Tells::keeps))]
     pub fn run(&mut self, address: u16, words: &mut [u16]) -> Result<(), Refusal>
         ensures gave { outcome result (held C.Chip self.new) ≡ run_words C.Chip.next address (length words.old) (held C.Chip self.old) }
         ensures words { words.new ≡ filled C.Chip.next address (length words.old) words.old (held C.Chip self.old) }
@@ -95,7 +96,7 @@ impl<C: Chip> Driver<C> {
     }
 
     // Sends an instruction that changes cells, and waits for the end of its cycle.
-    #[tactic(auto, using(crate::proofs::Tells::keeps))]
+    #[tactic(auto, using(wire::proofs::Tells::keeps))]
     fn change(&mut self, instruction: Instruction) -> Result<(), Refusal>
         ensures { outcome result (held C.Chip self.new) ≡ changed C.Chip.next instruction (held C.Chip self.old) }
     {

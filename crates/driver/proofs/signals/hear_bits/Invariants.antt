@@ -2,7 +2,7 @@ use Rattle.std.proofs.Common.{◌≡◌, ◌-◌, ◌^◌, ◌<◌, []}
 use Rattle.chips.specs.Seen.{seen}
 use Rattle.wire.specs.Frames.{clocks}
 use Rattle.wire.specs.Hearing.{heard}
-use Rattle.driver.specs.Sent.{told}
+use Rattle.wire.specs.Sent.{told}
 use Rattle.driver.proofs.signals.hear_bits.Given as goal
 
 abbrev pub invariant-loop : goal.invariant-loop

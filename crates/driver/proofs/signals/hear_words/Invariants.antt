@@ -3,7 +3,7 @@ use Rattle.protocol.specs.Parts.{bits_of}
 use Rattle.chips.specs.Seen.{seen}
 use Rattle.wire.specs.Frames.{clocks}
 use Rattle.wire.specs.Hearing.{words_heard}
-use Rattle.driver.specs.Sent.{told}
+use Rattle.wire.specs.Sent.{told}
 use Rattle.driver.proofs.signals.hear_words.Given as goal
 
 abbrev pub invariant-loop-word : goal.invariant-loop-word

@@ -1,7 +1,7 @@
 use Rattle.std.proofs.Common.{◌≡◌, ◌-◌}
 use Rattle.chips.specs.Seen.{seen}
 use Rattle.wire.specs.Polling.{tries, ready_in}
-use Rattle.driver.specs.Sent.{told}
+use Rattle.wire.specs.Sent.{told}
 use Rattle.driver.proofs.signals.wait.Given as goal
 
 abbrev pub invariant-loop : goal.invariant-loop

@@ -5,7 +5,7 @@ use Rattle.chips.specs.Pins.{Pins, Put, put, put_on, sample_of}
 use Rattle.chips.specs.Seen.{Seen, stepped}
 use Rattle.wire.specs.Frames.{bit_at, clocks, opening}
 use Rattle.wire.specs.Runs.{run}
-use Rattle.driver.specs.Sent.{told}
+use Rattle.wire.specs.Sent.{told}
 
 put-setup : (p : Pins) (s : Put) → (put_on p s).machine.setup ≡ p.machine.setup
 unfolding put_on

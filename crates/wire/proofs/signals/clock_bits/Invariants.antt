@@ -1,8 +1,8 @@
 use Rattle.std.proofs.Common.{◌≡◌, []}
 use Rattle.chips.specs.Seen.{seen}
 use Rattle.wire.specs.Frames.{clocks}
-use Rattle.driver.specs.Sent.{told}
-use Rattle.driver.proofs.signals.clock_bits.Given as goal
+use Rattle.wire.specs.Sent.{told}
+use Rattle.wire.proofs.signals.clock_bits.Given as goal
 
 abbrev pub invariant-loop-place : goal.invariant-loop-place
 invariant-loop-place g l =
