@@ -1,2 +1,2 @@
-pub mod Clocking
-pub mod Shifting
+pub mod Lengths
+pub mod Keeping

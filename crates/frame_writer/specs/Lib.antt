@@ -1,2 +1,3 @@
 pub mod Written
-pub mod Pieces
+pub mod Kept
+pub mod Wrote

@@ -3,7 +3,7 @@
 
 ghost use Rattle.frame_writer.specs.Written.{written, Writes};
 
-use crate::samples::write;
+use crate::writer::Writer;
 use protocol::instruction::Instruction;
 use protocol::list::List;
 use protocol::parts::Part;
@@ -11,7 +11,7 @@ use protocol::refusal::Refusal;
 use protocol::sample::Straps;
 use wire::frame::Frame;
 
-mod samples;
+mod writer;
 
 // Adds the frame of an instruction for a chip of this part, at these levels of ORG and PE, to the list.
 // The part comes by its number: an enum would ask more of callers.
@@ -28,9 +28,7 @@ pub fn write_frame(
     let part = Part::try_from(part)?;
     let organisation = part.organised(part.width(org));
     organisation.check(instruction)?;
-    write(
-        samples,
-        Straps { org, pe },
-        Frame::new(organisation, instruction),
-    )
+    let straps = Straps { org, pe };
+    let mut writer = Writer { samples, straps };
+    writer.write(Frame::new(organisation, instruction))
 }
