@@ -1,5 +1,6 @@
 -- One turn of a loop more.
 use Rattle.std.proofs.Common.{◌≡◌, ℕ, zero, suc, ◌+◌, ◌-◌, ◌*◌, ◌^◌, ◌<◌, ◌≤◌, true, false, cond, [], ◌∷◌, zero-add, suc-add, arith, pow_mono, refl, ap, ◌∙◌}
+use lib.Arith.{le-zero}
 use native.Mathlib.Nat.{zero-div}
 use Rattle.std.proofs.lemmas.Grind.{pow_more, common_steps}
 use Rattle.chips.specs.Pins.{Pins, Put, put_on, do_of}
@@ -32,7 +33,7 @@ module _ {V : Type 0} (next : V → Pins → Put → V) (x : Seen V) where
 
   pub none_heard : (k v : ℕ) → k ≤ 0 → heard k v x.pins ≡ v
   unfolding heard
-  none_heard k v h = let z : k ≡ 0 = omega arith in rw z
+  none_heard k v h = rw (le-zero h)
 
   -- after i words
   zeros_add : (m n : ℕ) → told next x (clocks (m + n) 0 []) ≡ told next (told next x (clocks m 0 [])) (clocks n 0 [])
@@ -62,7 +63,7 @@ module _ {V : Type 0} (next : V → Pins → Put → V) (x : Seen V) where
 
   pub no_look : (k : ℕ) → k ≤ 0 → told next x (tries k x.pins) ≡ x
   unfolding told tries
-  no_look k h = let z : k ≡ 0 = omega arith in rw z
+  no_look k h = rw (le-zero h)
 
 module _ (p : Pins) where
   pub no_words : (bits : ℕ) → words_heard bits 0 p ≡ []
@@ -75,7 +76,7 @@ module _ (p : Pins) where
 
   pub none_ready : (k : ℕ) → k ≤ 0 → ready_in k p ≡ false
   unfolding ready_in
-  none_ready k h = let z : k ≡ 0 = omega arith in rw z
+  none_ready k h = rw (le-zero h)
 
 -- i bits of a word, with more to come
 pub word_below : (v i : ℕ) → v < 2 ^ i → i < 16 → v < 32768

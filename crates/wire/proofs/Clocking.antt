@@ -1,5 +1,6 @@
 -- Bits that are sent one after the other, and a frame from its parts.
 use Rattle.std.proofs.Common.{◌≡◌, ℕ, ◌-◌, ◌<◌, ◌≤◌, suc, [], arith, ap, ◌∙◌}
+use lib.Arith.{le-zero}
 use Rattle.chips.specs.Pins.{Pins, Put}
 use Rattle.chips.specs.Seen.{Seen}
 use Rattle.wire.specs.Frames.{bit_at, clock, clocks, ending, opening}
@@ -9,7 +10,7 @@ use Rattle.wire.proofs.Tells.{told-clocks, told-opening}
 module _ {V : Type 0} (next : V → Pins → Put → V) (x : Seen V) where
   pub no_bits : (k code : ℕ) → k ≤ 0 → told next x (clocks k code []) ≡ x
   unfolding told clocks
-  no_bits k code h = let z : k ≡ 0 = omega arith in rw z
+  no_bits k code h = rw (le-zero h)
 
   pub one_bit : (k code : ℕ) → 0 < k →
       told next x (clocks k code []) ≡ told next (told next x (clock (bit_at code (k - 1)) [])) (clocks (k - 1) code [])
