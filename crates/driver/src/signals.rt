@@ -44,6 +44,7 @@ fn wait<C: Chip>(chip: &mut C, most: u16) -> bool
     ensures ready { result ≡ ready_in most (C.Chip.meaning chip.old) }
     ensures sent { Sends C.Chip chip.old chip.new (tries most (C.Chip.meaning chip.old)) }
 {
+    // tried by `any`: what a closure leaves behind the `&mut` that it holds stays unknown, so `sent` doesn't close
     for _ in 0..most {
         if look(chip) {
             return true;
