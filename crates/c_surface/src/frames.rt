@@ -9,6 +9,7 @@ use frame_writer::write_frame;
 use protocol::instruction::Instruction;
 use protocol::list::List;
 use protocol::refusal::{Cause, Refusal};
+use protocol::sample::Straps;
 
 // The value is the word of a WRITE or WRALL, and the number of words of a READ. C names the kind by its number.
 fn instruction_from(kind: u8, address: u16, value: u16) -> Option<Instruction>
@@ -29,19 +30,18 @@ fn instruction_from(kind: u8, address: u16, value: u16) -> Option<Instruction>
     }
 }
 
-// The length of the frame, at the front of the buffer.
+// The length of the frame, at the front of the buffer. The part comes by its number, as C names it.
 fn write_into(
     part: u8,
-    org: bool,
-    pe: bool,
+    straps: Straps,
     instruction: Instruction,
     samples: &mut [u8],
 ) -> Result<usize, Refusal>
-    ensures length { result ≡ frame_length (written part org pe instruction) samples.old }
-    ensures buffer { samples.new ≡ frame_buffer (written part org pe instruction) samples.old }
+    ensures length { result ≡ frame_length (written part straps.org straps.pe instruction) samples.old }
+    ensures buffer { samples.new ≡ frame_buffer (written part straps.org straps.pe instruction) samples.old }
 {
     let mut list = List::new(samples);
-    write_frame(part, org, pe, instruction, &mut list)?;
+    write_frame(part, straps, instruction, &mut list)?;
     Ok(list.len())
 }
 
@@ -59,8 +59,12 @@ pub extern "C" fn kippercrag_write_frame(
     ensures answer { result ≡ frame_answer (framed part (not (org == 0)) (not (pe == 0)) (instruction_from kind address value)) samples.old }
     ensures buffer { samples.new ≡ frame_buffer (framed part (not (org == 0)) (not (pe == 0)) (instruction_from kind address value)) samples.old }
 {
+    let straps = Straps {
+        org: org != 0,
+        pe: pe != 0,
+    };
     match instruction_from(kind, address, value) {
-        Some(instruction) => write_into(part, org != 0, pe != 0, instruction, samples).into(),
+        Some(instruction) => write_into(part, straps, instruction, samples).into(),
         None => Err(Cause::BadSettings.into()).into(),
     }
 }

@@ -6,6 +6,7 @@ use Rattle.protocol.specs.declared.list.List.{List as Held}
 use Rattle.protocol.specs.declared.refusal.Refusal.{Refusal}
 use Rattle.protocol.specs.declared.sample.Straps.{Straps}
 use Rattle.protocol.specs.Lists.{items, free, room, Adds}
+use Rattle.protocol.proofs.Adding.{length-items}
 use Rattle.chips.specs.Pins.{Put, put_on}
 use Rattle.chips.specs.Seen.{Seen}
 use Rattle.wire.specs.Sent.{told}
@@ -13,9 +14,6 @@ use Rattle.frame_writer.specs.Kept.{Kept, kept, keep, keep_byte, blank_at}
 use Rattle.frame_writer.specs.Written.{byte_of, bytes_of}
 use Rattle.frame_writer.specs.Wrote.{Wrote}
 use Rattle.frame_writer.specs.declared.writer.Writer.{Writer}
-
-items_length : (l : Held ℕ) → length (items l) ≡ l.count
-items_length l = grind (arith, common_steps, l.within)
 
 free_length : (l : Held ℕ) → l.count + length (free l) ≡ room l
 free_length l = grind (arith, common_steps, l.within)
@@ -65,7 +63,7 @@ all_written w x xs h e =
     let past : free m ≡ drop (length more) (free l) = ap (λ (s : Seen Kept). s.view.places) f in
     let n : length more ≡ length xs = length-map xs (byte_of w.straps.org w.straps.pe) in
     let long : length (items m) ≡ length (items l) + length more = ap length adds ∙ length-append (items l) more in
-    let counts : m.count ≡ l.count + length more = omega (arith, long, items_length l, items_length m) in
+    let counts : m.count ≡ l.count + length more = omega (arith, long, length-items l, length-items m) in
     let left : length (free m) ≡ length (free l) - length more = ap length past ∙ length-drop _ _ in
     record {
       added = record {

@@ -18,17 +18,15 @@ mod writer;
 // A refusal leaves the list as it was.
 pub fn write_frame(
     part: u8,
-    org: bool,
-    pe: bool,
+    straps: Straps,
     instruction: Instruction,
     samples: &mut List<u8>,
 ) -> Result<(), Refusal>
-    ensures { Writes (written part org pe instruction) samples.old samples.new result }
+    ensures { Writes (written part straps.org straps.pe instruction) samples.old samples.new result }
 {
     let part = Part::try_from(part)?;
-    let organisation = part.organised(part.width(org));
+    let organisation = part.organised(part.width(straps.org));
     organisation.check(instruction)?;
-    let straps = Straps { org, pe };
     let mut writer = Writer { samples, straps };
     writer.write(Frame::new(organisation, instruction))
 }

@@ -508,12 +508,12 @@ mod tests {
         let mut room = [9; 21];
         let mut samples = List::new(&mut room);
         assert_eq!(rt;
-            write_frame(46, true, true, Instruction::Wen, &mut samples),
+            write_frame(46, Straps::HIGH, Instruction::Wen, &mut samples),
             DONE
         );
         assert_eq!(rt; samples.items(), WEN.as_slice());
         assert_eq!(rt;
-            write_frame(46, true, true, Instruction::Wen, &mut samples),
+            write_frame(46, Straps::HIGH, Instruction::Wen, &mut samples),
             refused(Cause::NoRoom)
         );
         assert_eq!(rt; samples.items(), WEN.as_slice());
@@ -525,19 +525,19 @@ mod tests {
         let mut room = [9; 20];
         {
             let mut samples = List::new(&mut room);
-            let answer = write_frame(47, false, true, write(2048, 256), &mut samples);
+            let answer = write_frame(47, NARROW, write(2048, 256), &mut samples);
             assert_eq!(rt; answer, refused(Cause::BadSettings));
-            let answer = write_frame(86, false, true, write(2048, 256), &mut samples);
+            let answer = write_frame(86, NARROW, write(2048, 256), &mut samples);
             assert_eq!(rt; answer, refused(Cause::Address));
-            let answer = write_frame(86, false, true, write(2047, 256), &mut samples);
+            let answer = write_frame(86, NARROW, write(2047, 256), &mut samples);
             assert_eq!(rt; answer, refused(Cause::Value));
-            let answer = write_frame(86, false, true, read(2048, 0), &mut samples);
+            let answer = write_frame(86, NARROW, read(2048, 0), &mut samples);
             assert_eq!(rt; answer, refused(Cause::Address));
-            let answer = write_frame(86, false, true, read(2047, 0), &mut samples);
+            let answer = write_frame(86, NARROW, read(2047, 0), &mut samples);
             assert_eq!(rt; answer, refused(Cause::WordCount));
-            let answer = write_frame(86, false, true, read(2047, 2049), &mut samples);
+            let answer = write_frame(86, NARROW, read(2047, 2049), &mut samples);
             assert_eq!(rt; answer, refused(Cause::WordCount));
-            let answer = write_frame(86, false, true, read(2047, 2048), &mut samples);
+            let answer = write_frame(86, NARROW, read(2047, 2048), &mut samples);
             assert_eq!(rt; answer, refused(Cause::NoRoom));
             assert_eq!(rt; samples.len(), 0);
         }
