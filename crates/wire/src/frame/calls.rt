@@ -9,7 +9,8 @@ use crate::frame::Frame;
 use protocol::instruction::{Instruction, Kind};
 use protocol::parts::{Organisation, Width};
 
-// A function and no `From`: `Kind` is of another crate and so is `u64`, and Rust lets no third crate write a `From` between them.
+// A function and no `From`: four kinds share opcode 0, so that it is no number of a kind, and Rust lets `wire` write no `From`
+// between types of other crates.
 fn opcode(kind: Kind) -> u64
     ensures is { result ≡ frames.opcode kind }
     ensures most { result ≤ 3 }
