@@ -1,7 +1,6 @@
 //! Frames into a buffer.
 ghost use Rattle.std.specs.Prelude.{◌≡◌, not, ◌==◌};
 ghost use Rattle.frame_writer.specs.Written.{written};
-ghost use Rattle.c_surface.specs.Answers.{answered};
 ghost use Rattle.c_surface.specs.Filling.{instruction_from, framed, frame_buffer, frame_length, frame_answer};
 
 use crate::answer::Answer;

@@ -1,5 +1,5 @@
 //! Listings into a buffer, and the number of entries.
-ghost use Rattle.std.specs.Prelude.{◌≡◌, length, IfOk};
+ghost use Rattle.std.specs.Prelude.{◌≡◌, IfOk};
 ghost use Rattle.traces.specs.Reading.{readable};
 ghost use Rattle.listing.specs.Outcome.{of_chip};
 ghost use Rattle.c_surface.specs.Answers.{settings_from, too_short};

@@ -2,7 +2,7 @@
 ghost use Rattle.std.specs.Prelude.{◌≡◌, ◌*◌, ◌≤◌, false, not, [], ◌∷◌, ◌++◌, length};
 ghost use Rattle.protocol.specs.Parts.{bits_of};
 ghost use Rattle.protocol.specs.declared.instruction.Instruction.TheVariants.{Read};
-ghost use Rattle.chips.specs.Pins.{do_of, put_on};
+ghost use Rattle.chips.specs.Pins.{do_of};
 ghost use Rattle.wire.specs.Frames.{selected, clock, clocks, rest, read_opening, frame_of};
 ghost use Rattle.wire.specs.Hearing.{zero_bit, level_of, heard, words_heard};
 ghost use Rattle.wire.specs.Polling.{shows_busy, tries, ready_in, polls, is_ready};

@@ -1,7 +1,6 @@
 //! A trace run on a chip at power-up and read beside it.
-ghost use Rattle.std.specs.Prelude.{◌≡◌, length, Ok};
-ghost use Rattle.models.specs.Powered.{fitted};
-ghost use Rattle.traces.specs.Reading.{readable, ReadAfter};
+ghost use Rattle.std.specs.Prelude.{◌≡◌, length};
+ghost use Rattle.traces.specs.Reading.{ReadAfter};
 ghost use Rattle.traces.specs.Replaying.{replayable, bytes_after, levels_after, Accounts};
 
 use crate::entry::Entry;

@@ -1,5 +1,5 @@
 //! The start bit that came last, and the entry that a decision then makes.
-ghost use Rattle.std.specs.Prelude.{◌≡◌, Some};
+ghost use Rattle.std.specs.Prelude.{◌≡◌};
 ghost use Rattle.traces.specs.Entries.{address_of, data_of, start_after, entry_of};
 
 use crate::entry::Entry;

@@ -1,10 +1,8 @@
 //! One sample after the other. All of a step is inlined where it is called, so that a loop over samples keeps the state in registers.
 ghost use Rattle.std.specs.Prelude.{◌≡◌, ◌^◌, ◌<◌, ◌≤◌, true};
-ghost use Rattle.protocol.specs.Parts.{organisation, cells_of, bits_of};
-ghost use Rattle.protocol.specs.Instructions.{length_of, kind_at};
-ghost use Rattle.chips.specs.Control.{aged, is_clock_edition, verdict_of, instruction_at, begun, obeyed, in_phase, ending, ended, rested, deselected, is_clock, is_quiet, read_on, taken, appended, clocked, turned, turn_to, turn};
+ghost use Rattle.protocol.specs.Parts.{cells_of, bits_of};
+ghost use Rattle.chips.specs.Control.{is_clock_edition, obeyed, ending, ended, deselected, is_clock, is_quiet, read_on, taken, appended, clocked, turned, turn};
 ghost use Rattle.chips.specs.declared.state.Decision.TheVariants.{Nothing};
-ghost use Rattle.chips.specs.declared.state.Phase.TheVariants.{Taking};
 ghost use Rattle.chips.specs.Fits.{PhaseFits, DecisionFits};
 ghost use Rattle.chips.specs.Turning.{Turns};
 

@@ -2,7 +2,7 @@
 ghost use Rattle.std.specs.Prelude.{◌≡◌, ◌+◌, ◌*◌, ◌^◌, ◌<◌, ◌≤◌, true, ◌&&◌, ◌==◌, nat_lt};
 ghost use Rattle.protocol.specs.Parts.{organisation, bits_of, ones_of, cells_of, field_of};
 ghost use Rattle.protocol.specs.Samples.{bit_of};
-ghost use Rattle.protocol.specs.Instructions.{has_data, is_read, length_of, span_of, kind_at, cell_at, value_at};
+ghost use Rattle.protocol.specs.Instructions.{is_read, length_of, span_of, kind_at, cell_at, value_at};
 ghost use Rattle.chips.specs.Fits.{Midway};
 
 use crate::incoming::Incoming;

@@ -1,5 +1,5 @@
 //! Models at power-up.
-ghost use Rattle.std.specs.Prelude.{◌≡◌, true, length, IfOk};
+ghost use Rattle.std.specs.Prelude.{◌≡◌, true, IfOk};
 ghost use Rattle.protocol.specs.Chosen.{is_offered};
 ghost use Rattle.protocol.specs.Parts.{bytes_of};
 ghost use Rattle.models.specs.Powered.{fitted, powered, settings_in};

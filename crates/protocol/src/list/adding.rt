@@ -1,5 +1,5 @@
 //! Adding to a list.
-ghost use Rattle.std.specs.Prelude.{◌+◌, ◌<◌, ◌≤◌, List as ListOf, [], ◌∷◌, length};
+ghost use Rattle.std.specs.Prelude.{◌+◌, ◌<◌, ◌≤◌, [], ◌∷◌, length};
 ghost use Rattle.protocol.specs.Lists.{room, Added, Adds};
 
 use crate::list::List;

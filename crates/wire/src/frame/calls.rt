@@ -1,5 +1,5 @@
 //! The numbers of a frame.
-ghost use Rattle.std.specs.Prelude.{◌≡◌, ◌+◌, ◌*◌, ◌^◌, ◌<◌, ◌≤◌, if◌then◌else◌};
+ghost use Rattle.std.specs.Prelude.{◌≡◌, ◌*◌, ◌^◌, ◌<◌, ◌≤◌, if◌then◌else◌};
 ghost use Rattle.protocol.specs.Instructions.{has_data};
 ghost use Rattle.protocol.specs.Parts.{bits_of};
 ghost use Rattle.wire.specs.Frames as frames;
