@@ -1,10 +1,10 @@
 -- A trace run on a chip at power-up.
 use Rattle.std.specs.Prelude.{ℕ, List, length, Ok, Err, Result}
+use Rattle.std.specs.Result.{result_and}
 use Rattle.protocol.specs.declared.refusal.Refusal.{Refusal}
 use Rattle.protocol.specs.declared.settings.Settings.{Settings}
 use Rattle.protocol.specs.declared.settings.Setup.{Setup}
 use Rattle.protocol.specs.Inputs.{Checked}
-use Rattle.protocol.specs.Refusals.{and_then}
 use Rattle.chips.specs.Machine.{fresh_machine, run_on, outs}
 use Rattle.models.specs.Powered.{fitted}
 use Rattle.models.specs.Traced.{trace_checked}
@@ -12,7 +12,7 @@ use Rattle.c_surface.specs.declared.answer.Answer.{Answer}
 use Rattle.c_surface.specs.Answers.{ended}
 
 abbrev pub checked_for : Result Setup Refusal → Checked → Result Setup Refusal
-checked_for (Ok setup) check = and_then check (Ok setup)
+checked_for (Ok setup) check = result_and check (Ok setup)
 checked_for (Err e) check = Err e
 
 -- What stands in the way: a chip that does not exist, a memory of another size, a sample above 31, a buffer of another length.

@@ -15,10 +15,10 @@ pub struct Answer {
 }
 
 impl Answer {
-    pub(crate) fn new(res: Result<(), Refusal>, length: usize) -> Answer
-        ensures { result ≡ ended res length }
+    pub(crate) fn new(outcome: Result<(), Refusal>, length: usize) -> Answer
+        ensures { result ≡ ended outcome length }
     {
-        let (refusal, place) = match res {
+        let (refusal, place) = match outcome {
             Ok(()) => (0, 0),
             Err(refusal) => (u8::from(refusal.cause), refusal.place),
         };
@@ -32,10 +32,10 @@ impl Answer {
 
 // A length, or a refusal with length 0.
 impl From<Result<usize, Refusal>> for Answer {
-    ghost from_gives = { λ res answer. answer ≡ answered res };
+    ghost from_gives = { λ outcome answer. answer ≡ answered outcome };
 
-    fn from(res: Result<usize, Refusal>) -> Answer {
-        match res {
+    fn from(outcome: Result<usize, Refusal>) -> Answer {
+        match outcome {
             Ok(length) => Answer::new(Ok(()), length),
             Err(refusal) => Answer::new(Err(refusal), 0),
         }

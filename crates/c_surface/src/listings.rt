@@ -16,13 +16,13 @@ use traces::entry::Entry;
 use traces::reader::read_trace;
 
 // The bytes at the front of the buffer, if they fit.
-fn give(res: Result<(), Refusal>, bytes: &[u8], buffer: &mut [u8]) -> Answer
-    ensures answer { result ≡ text_answer res bytes.now buffer.old }
+fn give(outcome: Result<(), Refusal>, bytes: &[u8], buffer: &mut [u8]) -> Answer
+    ensures answer { result ≡ text_answer outcome bytes.now buffer.old }
     ensures buffer { buffer.new ≡ filled_with bytes.now buffer.old }
 {
     let mut list = List::new(buffer);
     match list.extend(bytes, 0) {
-        Ok(()) => Answer::new(res, bytes.len()),
+        Ok(()) => Answer::new(outcome, bytes.len()),
         Err(refusal) => Answer::new(Err(refusal), bytes.len()),
     }
 }

@@ -64,7 +64,7 @@ written part (Data width cell next) bytes = bytes
 written part (Instruction kind width cell value verdict) bytes = if_carried_out verdict (changed part kind width cell value bytes) bytes
 written part WrongCount bytes = bytes
 
--- Rule 4, DO: 0 as a READ has its address, then the bits of the cell, highest first.
+-- Rule 4, DO: the bits of a cell, highest first.
 abbrev pub data_bit : Width → ℕ → ℕ → ℕ
 data_bit width value next = (value / 2 ^ (bits_of width - 1 - next)) % 2
 
@@ -79,6 +79,7 @@ held st (Reading width cell next) out = out
 held st Spoiled out = shown st.status st.left
 held st Over out = shown st.status st.left
 
+-- and 0 as a READ has its address
 abbrev pub out_of : Decision → State → List ℕ → ℕ → ℕ
 out_of Nothing st bytes out = held st st.phase out
 out_of (Start width) st bytes out = held st st.phase out

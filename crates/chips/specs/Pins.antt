@@ -5,6 +5,7 @@ use Rattle.protocol.specs.declared.parts.Part.TheVariants.{C46, C56, C66, C76, C
 use Rattle.protocol.specs.declared.sample.Sample.{Sample}
 use Rattle.protocol.specs.declared.settings.Edition.{Edition}
 use Rattle.protocol.specs.declared.settings.Edition.TheVariants.{Fall, Clock}
+use Rattle.protocol.specs.declared.settings.Setup.{Setup}
 use Rattle.protocol.specs.Parts.{row_of}
 use Rattle.protocol.specs.Samples.{bit_of}
 use Rattle.chips.specs.Machine.{Machine, step}
@@ -30,6 +31,10 @@ sample_of p x = record { cs = x.cs; sk = x.sk; di = x.di; org = p.org; pe = p.pe
 -- One sample.
 unfoldable pub put_on : Pins → Put → Pins
 put_on p x = record { blank = p.blank; machine = cond p.blank p.machine (step p.machine (sample_of p x)); org = p.org; pe = p.pe }
+
+-- a blank has some setup, which nothing tells
+abbrev pub blank_setup : Setup
+blank_setup = record { part = C46; edition = Fall; cycles = record { write = 0; eral = 0; wrall = 0 } }
 
 -- DO, which a blank never drives
 abbrev pub do_of : Pins → ℕ

@@ -61,8 +61,8 @@ pub enum Decision {
         cell: u16,
         next: u8,
     },
-    // an instruction is whole; its kind tells whether `cell` means something, and `value` is 0 where it has no data. An enum with
-    // fields by kind would ask for a match on the kind here too, beside the one in each use
+    // an instruction is whole. Its bits name `cell` and `value` by their places, whatever the kind, which tells whether they mean
+    // something; an enum with fields by kind would ask for a match on it where they are read. `value` is 0 where no data come
     Instruction {
         kind: Kind,
         width: Width,

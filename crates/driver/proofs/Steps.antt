@@ -19,17 +19,20 @@ unfolding clocks
 clocks_add zero n = rw zero-add
 clocks_add (suc m) n = rw (suc-add, bit_at_zero (m + n), bit_at_zero m, clocks_add m n)
 
+one_less : (n i : ℕ) → i < n → n - i ≡ suc (n - (i + 1))
+one_less n i h = omega arith
+
 module _ {V : Type 0} (next : V → Pins → Put → V) (x : Seen V) where
   -- after i of n zero bits
   pub one_zero : (n i : ℕ) → i < n → told next x (clocks (n - i) 0 []) ≡ told next (told next x (clock false [])) (clocks (n - (i + 1)) 0 [])
   unfolding told clocks
-  one_zero n i h = let s : n - i ≡ suc (n - (i + 1)) = omega arith in ap (λ (j : ℕ). told next x (clocks j 0 [])) s ∙ rw zero-div
+  one_zero n i h = ap (λ (j : ℕ). told next x (clocks j 0 [])) (one_less n i h) ∙ rw zero-div
 
   -- after i of n bits of a word, which are v
   pub one_heard : (n i v l : ℕ) {y : Seen V} → i < n → l ≡ level_of (do_of (zero_bit x.pins)) →
       y ≡ told next x (clock false []) → heard (n - i) v x.pins ≡ heard (n - (i + 1)) (2 * v + l) y.pins
   unfolding heard told
-  one_heard n i v l h b e = let s : n - i ≡ suc (n - (i + 1)) = omega arith in rw (s, b, e)
+  one_heard n i v l h b e = rw (one_less n i h, b, e)
 
   pub none_heard : (k v : ℕ) → k ≤ 0 → heard k v x.pins ≡ v
   unfolding heard
@@ -51,11 +54,11 @@ module _ {V : Type 0} (next : V → Pins → Put → V) (x : Seen V) where
     pub one_look : i < n → shows_busy x.pins ≡ true →
         told next x (tries (n - i) x.pins) ≡ told next (told next x (selected ∷ [])) (tries (n - (i + 1)) (put_on x.pins selected))
     unfolding told tries
-    one_look h b = let s : n - i ≡ suc (n - (i + 1)) = omega arith in rw (s, b)
+    one_look h b = rw (one_less n i h, b)
 
     pub last_look : i < n → shows_busy x.pins ≡ false → told next x (tries (n - i) x.pins) ≡ told next x (selected ∷ [])
     unfolding told tries
-    last_look h b = let s : n - i ≡ suc (n - (i + 1)) = omega arith in rw (s, b)
+    last_look h b = rw (one_less n i h, b)
 
   pub look_pins : (told next x (selected ∷ [])).pins ≡ put_on x.pins selected
   unfolding told
@@ -72,7 +75,7 @@ module _ (p : Pins) where
 
   pub more_ready : (n i : ℕ) → i < n → ready_in (n - i) p ≡ cond (shows_busy p) (ready_in (n - (i + 1)) (put_on p selected)) true
   unfolding ready_in
-  more_ready n i h = let s : n - i ≡ suc (n - (i + 1)) = omega arith in rw s
+  more_ready n i h = rw (one_less n i h)
 
   pub none_ready : (k : ℕ) → k ≤ 0 → ready_in k p ≡ false
   unfolding ready_in

@@ -1,12 +1,10 @@
 -- What is seen of a writer: whose list it has, whose slice that list has, the bytes in it, and the free places.
 use Rattle.std.specs.Prelude.{ℕ, true, List, [], ◌∷◌, ◌++◌}
 use Rattle.protocol.specs.declared.list.List.{List as Held}
-use Rattle.protocol.specs.declared.parts.Part.TheVariants.{C46}
 use Rattle.protocol.specs.declared.sample.Straps.{Straps}
-use Rattle.protocol.specs.declared.settings.Edition.TheVariants.{Fall}
 use Rattle.protocol.specs.Lists.{items, free}
 use Rattle.chips.specs.Machine.{fresh_machine}
-use Rattle.chips.specs.Pins.{Pins, Put}
+use Rattle.chips.specs.Pins.{Pins, Put, blank_setup}
 use Rattle.frame_writer.specs.Written.{byte_of}
 
 pub record Kept : Type 0 where
@@ -27,12 +25,6 @@ keep_byte v byte (_ ∷ places) = record { lender = v.lender; slice = v.slice; b
 abbrev pub keep : Kept → Pins → Put → Kept
 keep v p x = keep_byte v (byte_of p.org p.pe x) v.places
 
--- a blank at these levels; it has some setup, which nothing tells
+-- a blank at these levels
 abbrev pub blank_at : Straps → Pins
-blank_at straps =
-    record {
-      blank = true;
-      machine = fresh_machine (record { part = C46; edition = Fall; cycles = record { write = 0; eral = 0; wrall = 0 } }) [];
-      org = straps.org;
-      pe = straps.pe;
-    }
+blank_at straps = record { blank = true; machine = fresh_machine blank_setup []; org = straps.org; pe = straps.pe }

@@ -71,7 +71,7 @@ impl Writer<'_, '_> {
         ensures adds { Adds self.old.samples.now (bytes_of self.old.straps.org self.old.straps.pe (samples_in frame)) 0 self.new.samples.now result }
         ensures lender { self.new.samples.ghost_name ≡ self.old.samples.ghost_name }
     {
-        if length(frame) > self.samples.room() - self.samples.len() {
+        if length(frame) > self.samples.left() {
             return Err(Cause::NoRoom.into());
         }
         self.add(frame);

@@ -46,11 +46,7 @@ admitted_finds p greeted i h =
 pub changeable_finds : (p : Pins) (greeted opened : Bool) (i : Instruction) → changeable p greeted opened i ≡ Ok tt →
     Admitted p greeted i × (opened ≡ true) × (p.pe ≡ true)
 changeable_finds p greeted opened i h =
-    let some = (agreed p.machine.setup.part (width_on p)).some in (
-      record { live = grind (arith, nat_tests); met = grind (arith, nat_tests); address = grind (arith, nat_tests); value = grind (arith, nat_tests) },
-      grind (arith, nat_tests),
-      grind (arith, nat_tests),
-    )
+    (admitted_finds p greeted i (grind (arith, nat_tests)), grind (arith, nat_tests), grind (arith, nat_tests))
 
 in_bits : (width : Width) (value : ℕ) → value ≤ ones_of width → value < 2 ^ bits_of width
 in_bits Eight value h = omega arith

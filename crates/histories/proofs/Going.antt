@@ -1,5 +1,5 @@
 -- A list of calls, performed in a loop.
-use Rattle.std.proofs.Common.{◌≡◌, ℕ, zero, suc, ◌+◌, ◌-◌, ◌<◌, ◌≤◌, Bool, true, false, List, [], ◌∷◌, ◌++◌, length, get_or, take, drop, Ok, Err, Result, sym, refl, ap, ◌∙◌, append_assoc, arith, leb-true}
+use Rattle.std.proofs.Common.{◌≡◌, ℕ, zero, suc, ◌+◌, ◌-◌, ◌<◌, ◌≤◌, Bool, true, false, List, [], ◌∷◌, ◌++◌, length, get_or, take, drop, Ok, Err, Result, sym, refl, ap, ◌∙◌, append_assoc, arith, leb-true, le_of_eq}
 use Rattle.std.proofs.lemmas.List.{append-nil, take_more, take_all}
 use Rattle.std.proofs.lemmas.Bool.{and_parts}
 use Rattle.protocol.specs.declared.list.List.{List as Held}
@@ -47,13 +47,10 @@ module _ {V : Type 0} (next : V → Pins → Put → V) where
   events_more [] x s = refl
   events_more (y ∷ ys) x s = ap (λ (es : List Event). event y (performed next y s) ∷ es) (events_more ys x (performed next y s).after)
 
-  at_most : (m n : ℕ) → m ≡ n → m ≤ n
-  at_most m n e = omega arith
-
   -- no call hands out more words than it may
   fetched-most : (address count : ℕ) (r : Result (Unit {0}) Refusal) (u : State V) (after : State V → State V) →
       length (filled_by (then r u (λ _ v. outcome {T = List ℕ} (Ok (words_on v.chip.pins address count)) (after v))).answer []) ≤ count
-  fetched-most address count (Ok _) u after = at_most _ _ (words_length _ count _)
+  fetched-most address count (Ok _) u after = le_of_eq (words_length _ count _)
   fetched-most address count (Err e) u after = omega arith
 
   words_most : (x : Call) (s : State V) → length (performed next x s).words ≤ wanted_by x

@@ -1,4 +1,4 @@
--- What two histories have in common.
+-- Which events met a chip that was still programming, and the cells after the first greet.
 use Rattle.std.specs.Prelude.{ℕ, Bool, true, false, List, [], ◌∷◌, Some, None, Ok, Err, Option}
 use Rattle.protocol.specs.declared.refusal.Cause.{Cause}
 use Rattle.protocol.specs.declared.refusal.Cause.TheVariants.{

@@ -1,4 +1,5 @@
--- The book: the cells as a user may believe them to be, from the calls and their answers alone.
+-- The book: the cells as a user may believe them to be: those at the first greet that is done, and from then on what calls and their
+-- answers alone tell.
 use Rattle.std.specs.Prelude.{ℕ, Bool, true, false, cond, List, [], ◌∷◌, length, replicate, Some, None, Ok, Err, Option, slice_set}
 use Rattle.protocol.specs.declared.refusal.Cause.{Cause}
 use Rattle.protocol.specs.declared.refusal.Cause.TheVariants.{
@@ -49,7 +50,7 @@ abbrev pub is_accepted : Answer → Bool
 is_accepted (Ok _) = true
 is_accepted (Err e) = is_unfinished e.cause
 
--- a word of ones, at the width of the book's chip
+-- what a call that is accepted does to the book; `ones` is a word of ones at the width of the chip
 abbrev pub changed_book : ℕ → Call → List ℕ → List ℕ
 changed_book ones Greet book = book
 changed_book ones Settle book = book

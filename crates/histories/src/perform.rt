@@ -32,11 +32,12 @@ fn words_fit(calls: &[Call], places: usize) -> bool
 }
 
 // Is there room for an answer to each call, and for the most words that they hand out?
-// Calls and lists stay arguments of their own: a struct of them would be made for one call and taken apart in it.
+// Calls and lists, and below driver and words, stay arguments of their own: a struct of them would be made for one call and taken
+// apart in it.
 fn has_room(calls: &[Call], answers: &List<Result<(), Refusal>>, words: &List<u16>) -> bool
     ensures { result ≡ has_room calls.now answers.now words.now }
 {
-    calls.len() <= answers.room() - answers.len() && words_fit(calls, words.room() - words.len())
+    calls.len() <= answers.left() && words_fit(calls, words.left())
 }
 
 // The most words of one run: a fixed buffer, cut to the count, since the libraries take no heap.

@@ -1,6 +1,5 @@
 -- A chip at power-up, over a memory.
 use Rattle.std.specs.Prelude.{ℕ, true, false, cond, List, length, Ok, Err, Result, ◌==◌}
-use Rattle.protocol.specs.declared.parts.Part.TheVariants.{C46}
 use Rattle.protocol.specs.declared.refusal.Cause.TheVariants.{MemorySize}
 use Rattle.protocol.specs.declared.refusal.Refusal.{Refusal}
 use Rattle.protocol.specs.declared.sample.Straps.{Straps}
@@ -13,7 +12,7 @@ use Rattle.protocol.specs.Chosen.{setup_of}
 use Rattle.protocol.specs.Parts.{bytes_of}
 use Rattle.protocol.specs.Refusals.{refusal}
 use Rattle.chips.specs.Machine.{fresh_machine}
-use Rattle.chips.specs.Pins.{Pins, org_at, pe_at}
+use Rattle.chips.specs.Pins.{Pins, blank_setup, org_at, pe_at}
 
 -- The check: the chip must exist, then the memory must have its size.
 abbrev pub sized : Result Setup Refusal → ℕ → Result Setup Refusal
@@ -31,13 +30,6 @@ live_pins setup straps bytes =
       org = org_at setup.part straps.org;
       pe = pe_at setup.edition straps.pe;
     }
-
--- a blank has some setup, which nothing tells
-abbrev pub no_cycles : Cycles
-no_cycles = record { write = 0; eral = 0; wrall = 0 }
-
-abbrev pub blank_setup : Setup
-blank_setup = record { part = C46; edition = Fall; cycles = no_cycles }
 
 abbrev pub blank_pins : List ℕ → Pins
 blank_pins bytes = record { blank = true; machine = fresh_machine blank_setup bytes; org = true; pe = true }
@@ -57,10 +49,3 @@ edition_number Clock = 1
 -- The model of an edition.
 abbrev pub settings_in : Edition → ℕ → Cycles → Settings
 settings_in edition part cycles = record { part = part; edition = edition_number edition; cycles = cycles }
-
--- the two models
-abbrev pub in_fall : ℕ → Cycles → Settings
-in_fall = settings_in Fall
-
-abbrev pub in_clock : ℕ → Cycles → Settings
-in_clock = settings_in Clock

@@ -1,5 +1,5 @@
 -- The numbers of the refusals.
-use Rattle.std.specs.Prelude.{ℕ, List, ◌++◌, Ok, Err, Result, codes, decimal}
+use Rattle.std.specs.Prelude.{ℕ, List, ◌++◌, codes, decimal}
 use Rattle.protocol.specs.declared.refusal.Cause.{Cause}
 use Rattle.protocol.specs.declared.refusal.Cause.TheVariants.{
   Address,
@@ -43,8 +43,3 @@ refusal cause place = record { cause = cause; place = place }
 -- as text
 abbrev pub refusal_text : Refusal → List ℕ
 refusal_text r = codes "refused " ++ (decimal (number_of r.cause) ++ (codes " at " ++ decimal r.place))
-
--- One check after the other: what the first refuses is the answer.
-abbrev pub and_then : {T : Type 0} → Result (Unit {0}) Refusal → Result T Refusal → Result T Refusal
-and_then (Ok _) next = next
-and_then (Err e) next = Err e

@@ -17,7 +17,8 @@ use traces::replay::replay;
 // One byte more than a trace file may have. `list_trace` reads its input so too: a crate for two lines would be longer.
 const ENOUGH: u64 = LIMIT as u64 + 1;
 
-// The bytes of the part that settings name; none of them is a memory of size 0, which the replay refuses.
+// The bytes of the part that settings name, 0 of none, which the replay refuses as a memory: an `Option` would be turned into a size
+// at once.
 fn size_of(taken: Result<Settings, Refusal>) -> usize {
     taken
         .ok()

@@ -61,7 +61,7 @@ pub(crate) fn take_contents(file: &[u8], samples: &mut List<u8>) -> Result<Setti
         return Err(Cause::FileForm.at(records.place));
     }
     let count = records.count_samples()?;
-    if count > samples.room() - samples.len() {
+    if count > samples.left() {
         return Err(Cause::NoRoom.into());
     }
     records.add_samples(samples)?;

@@ -112,7 +112,7 @@ fn run(rt: &HostRuntime) -> anyhow::Result<()> {
     print_calls(rt, &TASK, answers.items(), words.items())?;
     compare(rt, answers.items(), words.items())?;
     let count = tape.len();
-    if count >= tape.room() {
+    if tape.left() == 0 {
         return Err(anyhow!("the tape is full"));
     }
     println!(rt; "{count} samples were recorded, all that were put")?;

@@ -4,7 +4,7 @@ ghost use Rattle.protocol.specs.Parts.{cells_of, bits_of};
 ghost use Rattle.chips.specs.Control.{is_clock_edition, obeyed, ending, ended, deselected, is_clock, is_quiet, read_on, taken, appended, clocked, turned, turn};
 ghost use Rattle.chips.specs.declared.state.Decision.TheVariants.{Nothing};
 ghost use Rattle.chips.specs.Fits.{PhaseFits, DecisionFits};
-ghost use Rattle.chips.specs.Turning.{Turns};
+ghost use Rattle.chips.specs.Turning.{Decides, Turns};
 
 use crate::control::Control;
 use crate::incoming::{Incoming, Permission};
@@ -72,8 +72,7 @@ impl Control {
     // CS has fallen: what that decides.
     #[inline(always)]
     fn ending(&self, pe: bool) -> Decision
-        ensures is { result ≡ ending self.now.setup self.now.state.enabled pe self.now.state.phase }
-        ensures fits { DecisionFits self.now.setup.part result }
+        ensures { Decides self.now.setup.part result (ending self.now.setup self.now.state.enabled pe self.now.state.phase) }
     {
         match self.state.phase {
             Phase::Taking { width, count, bits } => {
@@ -112,7 +111,7 @@ impl Control {
     }
 
     // A clock while an instruction comes in.
-    #[tactic(auto, using(crate::proofs::Midways::midway), unfolding(crate::specs::Control::appended))]
+    #[tactic(auto, using(crate::proofs::Midways::midway, crate::proofs::Lengths::midway_short), unfolding(crate::specs::Control::appended))]
     #[inline(always)]
     fn append(&mut self, s: Sample, incoming: Incoming) -> Decision
         requires { incoming.setup ≡ self.old.setup }

@@ -47,12 +47,7 @@ impl Incoming {
         ensures is { result ≡ length_of self.setup.part self.width (kind_at self.count self.bits) }
         ensures most { result ≤ 29 }
     {
-        let opcode = self.span(0, 2);
-        if opcode == 0b01 || opcode == 0b00 && self.span(2, 2) == 0b01 {
-            self.head() + self.width.bits()
-        } else {
-            self.head()
-        }
+        self.organisation().length(self.kind())
     }
 
     // Is it at its length? None is shorter than opcode and address.
@@ -64,8 +59,7 @@ impl Incoming {
 
     // Has its address, or the data behind it, more than one bit to come?
     pub(crate) fn is_midway(self) -> bool
-        ensures is { result ≡ true → Midway self.setup.part self.width self.count self.bits }
-        ensures most { result ≡ true → self.count < 29 }
+        ensures { result ≡ true → Midway self.setup.part self.width self.count self.bits }
     {
         let head = self.head();
         if self.count < head {
@@ -131,9 +125,6 @@ impl Incoming {
         ensures is { result ≡ span_of self.count self.bits (2 + field_of self.setup.part self.width) (bits_of self.width) }
         ensures small { result ≤ ones_of self.width }
     {
-        match self.width {
-            Width::Eight => self.span(self.head(), 8) as u16,
-            Width::Sixteen => self.span(self.head(), 16) as u16,
-        }
+        self.span(self.head(), self.width.bits()) as u16
     }
 }

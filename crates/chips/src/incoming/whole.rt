@@ -3,7 +3,7 @@ ghost use Rattle.std.specs.Prelude.{◌≡◌};
 ghost use Rattle.protocol.specs.Instructions.{length_of, kind_at};
 ghost use Rattle.chips.specs.declared.state.Phase.TheVariants.{Taking};
 ghost use Rattle.chips.specs.Control.{verdict_of, instruction_at, ending};
-ghost use Rattle.chips.specs.Fits.{DecisionFits};
+ghost use Rattle.chips.specs.Turning.{Decides};
 
 use crate::incoming::Incoming;
 use crate::state::{Decision, Phase, Verdict};
@@ -53,8 +53,7 @@ impl Incoming {
     #[inline(always)]
     pub(crate) fn instruction(self, permission: Permission) -> Decision
         requires { self.count ≡ length_of self.setup.part self.width (kind_at self.count self.bits) }
-        ensures is { result ≡ instruction_at self.setup permission.enabled permission.pe self.width self.count self.bits }
-        ensures fits { DecisionFits self.setup.part result }
+        ensures { Decides self.setup.part result (instruction_at self.setup permission.enabled permission.pe self.width self.count self.bits) }
     {
         let kind = self.kind();
         Decision::Instruction {
@@ -69,8 +68,7 @@ impl Incoming {
     // CS has fallen.
     #[inline(always)]
     pub(crate) fn ending(self, permission: Permission) -> Decision
-        ensures is { result ≡ ending self.setup permission.enabled permission.pe (Taking self.width self.count self.bits) }
-        ensures fits { DecisionFits self.setup.part result }
+        ensures { Decides self.setup.part result (ending self.setup permission.enabled permission.pe (Taking self.width self.count self.bits)) }
     {
         if self.setup.edition == Edition::Fall && self.is_whole() {
             self.instruction(permission)

@@ -41,6 +41,7 @@ impl Chip for Model<'_> {
             None => 2,
             Some(live) => {
                 let sample = live.straps.sample(cs, sk, di);
+                // as in the trace call: a function for these lines would have to say what becomes of the loan that it hands on
                 let memory = &mut *self.memory;
                 let part = live.control.setup().part;
                 let mut cells = Cells { memory, part };

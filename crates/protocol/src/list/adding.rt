@@ -30,7 +30,7 @@ impl<T: Copy> List<'_, T> {
     pub fn push(&mut self, item: T, place: usize) -> Result<(), Refusal>
         ensures { Adds self.old (item ∷ []) place self.new result }
     {
-        if self.count >= self.slice.len() {
+        if self.left() == 0 {
             return Err(Cause::NoRoom.at(place));
         }
         self.store(item);
@@ -41,7 +41,7 @@ impl<T: Copy> List<'_, T> {
     pub fn extend(&mut self, more: &[T], place: usize) -> Result<(), Refusal>
         ensures { Adds self.old more.now place self.new result }
     {
-        if more.len() > self.slice.len() - self.count {
+        if more.len() > self.left() {
             return Err(Cause::NoRoom.at(place));
         }
         self.store_all(more);

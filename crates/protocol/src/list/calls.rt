@@ -1,5 +1,5 @@
 //! What a list holds.
-ghost use Rattle.std.specs.Prelude.{◌≡◌};
+ghost use Rattle.std.specs.Prelude.{◌≡◌, ◌-◌};
 ghost use Rattle.protocol.specs.Lists.{items as items_of, room as room_of};
 
 use crate::list::List;
@@ -24,6 +24,13 @@ impl<'a, T: Copy> List<'a, T> {
         ensures { result ≡ room_of self.now }
     {
         self.slice.len()
+    }
+
+    // How many items there is room for beside those in use.
+    pub fn left(&self) -> usize
+        ensures { result ≡ room_of self.now - self.now.count }
+    {
+        self.room() - self.len()
     }
 
     pub fn items(&self) -> &[T]

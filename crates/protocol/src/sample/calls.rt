@@ -59,30 +59,32 @@ fn highest(samples: &[u8]) -> u8
     samples.iter().fold(0, |most: u8, byte| most.max(*byte))
 }
 
+// The place of the first byte above 31.
+#[tactic(auto, using(crate::proofs::High::none_high))]
 fn high_position(samples: &[u8]) -> Option<usize>
     ensures { result ≡ position is_high samples.now }
 {
+    if highest(samples) <= MOST {
+        return None;
+    }
     samples.iter().position(|byte| *byte > MOST)
 }
 
-// The place of the first sample byte above 31, or the length.
-#[tactic(auto, using(crate::proofs::High::first_or_len, crate::proofs::High::none_high))]
+// The same, or the length: a public promise, of which an `Option` would be another.
+#[tactic(auto, using(crate::proofs::High::first_or_len))]
 pub fn first_high(samples: &[u8]) -> usize
     ensures { result ≡ high_at samples.now }
 {
-    if highest(samples) <= MOST {
-        return samples.len();
-    }
     high_position(samples).unwrap_or(samples.len())
 }
 
 // Refuses samples of which one is above 31, at the place of the first such.
+#[tactic(auto, using(crate::proofs::High::first_or_len))]
 pub fn check_samples(samples: &[u8]) -> Result<(), Refusal>
     ensures { result ≡ samples_checked samples.now }
 {
-    let place = first_high(samples);
-    if place < samples.len() {
-        return Err(Cause::HighSample.at(place));
+    match high_position(samples) {
+        Some(place) => Err(Cause::HighSample.at(place)),
+        None => Ok(()),
     }
-    Ok(())
 }
