@@ -1,10 +1,8 @@
 -- No instruction is shorter than eight bits, so that its first four say its kind, and none is longer than 29.
 use Rattle.std.proofs.Common.{ℕ, ◌<◌, ◌≤◌, inl, inr, arith}
 use Rattle.protocol.specs.declared.instruction.Kind.{Kind}
-use Rattle.protocol.specs.declared.instruction.Kind.TheVariants.{Read, Write, Erase, Wen, Wds, Eral, Wrall}
 use Rattle.protocol.specs.declared.parts.Part.{Part}
 use Rattle.protocol.specs.declared.parts.Width.{Width}
-use Rattle.protocol.specs.declared.parts.Width.TheVariants.{Eight, Sixteen}
 use Rattle.protocol.specs.Instructions.{length_of, kind_at}
 use Rattle.protocol.proofs.Table.{agreed}
 use Rattle.chips.specs.Fits.{Midway}
