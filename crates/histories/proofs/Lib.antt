@@ -9,3 +9,4 @@ pub mod Agreement
 pub mod Performs
 pub mod Going
 pub mod Carried
+pub mod Recorded

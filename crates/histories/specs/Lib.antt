@@ -4,3 +4,4 @@ pub mod Alike
 pub mod Performing
 pub mod Texts
 pub mod Laws
+pub mod Recorded

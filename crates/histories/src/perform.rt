@@ -9,6 +9,7 @@ ghost use Rattle.driver.specs.Held.{held};
 ghost use Rattle.histories.specs.Events.{Event, events_of};
 ghost use Rattle.histories.specs.Laws.{Truthful, AnswersAlike, ListingAccounts};
 ghost use Rattle.histories.specs.Performing.{wanted_by, words_wanted, has_room, Performed, PerformsOn, PerformedOne};
+ghost use Rattle.histories.specs.Recorded.{BytesAccounted};
 
 use crate::call::Call;
 use chips::chip::Chip;
@@ -121,7 +122,7 @@ fn perform_in_room<C: Chip>(
 
 // Performs the calls with a new driver on the chip: an answer for each call, and the words that they hand out, one after the other.
 // Without room for all of them nothing is done.
-#[tactic(auto, using(traces::proofs::Accounts::accounted, crate::proofs::Carried::truthful))]
+#[tactic(auto, using(traces::proofs::Accounts::accounted, crate::proofs::Carried::truthful, crate::proofs::Recorded::recorded))]
 pub fn perform<C: Chip>(
     chip: &mut C,
     calls: &[Call],
@@ -132,6 +133,7 @@ pub fn perform<C: Chip>(
     ensures truthful { (d : Event) → Truthful (ones_of (width_on (C.Chip.meaning chip.old))) (events_of C.Chip.next calls.now (seen C.Chip.view C.Chip.meaning chip.old)) d }
     ensures alike { (other : Pins) (d : Event) → AnswersAlike calls.now (events_of C.Chip.next calls.now (seen C.Chip.view C.Chip.meaning chip.old)) (C.Chip.meaning chip.old) other d }
     ensures account { ListingAccounts }
+    ensures recorded { result ≡ Ok tt → BytesAccounted calls.now (C.Chip.meaning chip.old) (C.Chip.meaning chip.new) }
 {
     // facts promises that the chip fits, on which the laws rest
     let _ = chip.facts();
