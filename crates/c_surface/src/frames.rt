@@ -1,5 +1,7 @@
 //! Frames into a buffer.
-ghost use Rattle.std.specs.Prelude.{◌≡◌, not, ◌==◌};
+ghost use Rattle.std.specs.Prelude.{◌≡◌, not, ◌==◌, ok_or};
+ghost use Rattle.protocol.specs.declared.refusal.Cause.TheVariants.{BadSettings};
+ghost use Rattle.protocol.specs.Refusals.{refusal};
 ghost use Rattle.frame_writer.specs.Written.{written};
 ghost use Rattle.c_surface.specs.Filling.{instruction_from, framed, frame_buffer, frame_length, frame_answer};
 
@@ -11,21 +13,21 @@ use protocol::refusal::{Cause, Refusal};
 use protocol::sample::Straps;
 
 // The value is the word of a WRITE or WRALL, and the number of words of a READ. C names the kind by its number.
-fn instruction_from(kind: u8, address: u16, value: u16) -> Option<Instruction>
-    ensures { result ≡ instruction_from kind address value }
+fn instruction_from(kind: u8, address: u16, value: u16) -> Result<Instruction, Refusal>
+    ensures { result ≡ ok_or (instruction_from kind address value) (refusal BadSettings 0) }
 {
     match kind {
-        0 => Some(Instruction::Read {
+        0 => Ok(Instruction::Read {
             address,
             words: value,
         }),
-        1 => Some(Instruction::Write { address, value }),
-        2 => Some(Instruction::Erase { address }),
-        3 => Some(Instruction::Wen),
-        4 => Some(Instruction::Wds),
-        5 => Some(Instruction::Eral),
-        6 => Some(Instruction::Wrall { value }),
-        _ => None,
+        1 => Ok(Instruction::Write { address, value }),
+        2 => Ok(Instruction::Erase { address }),
+        3 => Ok(Instruction::Wen),
+        4 => Ok(Instruction::Wds),
+        5 => Ok(Instruction::Eral),
+        6 => Ok(Instruction::Wrall { value }),
+        _ => Err(Cause::BadSettings.into()),
     }
 }
 
@@ -63,7 +65,7 @@ pub extern "C" fn kippercrag_write_frame(
         pe: pe != 0,
     };
     match instruction_from(kind, address, value) {
-        Some(instruction) => write_into(part, straps, instruction, samples).into(),
-        None => Err(Cause::BadSettings.into()).into(),
+        Ok(instruction) => write_into(part, straps, instruction, samples).into(),
+        Err(refusal) => Err(refusal).into(),
     }
 }

@@ -21,7 +21,7 @@ fn run(
     ensures levels { levels.new ≡ levels_ran (runnable settings (length memory.old) samples.now (length levels.old)) samples.now memory.old levels.old }
 {
     let setup = check(settings, memory.len())?;
-    // As in `replay`, which reads in between: a function for both would take the same four arguments and promise what this one does.
+    // As in `replay`, which judges more before and lists: a function for both would save it one line, and judge twice.
     // Every sample brings its own levels, so that the straps do not matter.
     let mut model = Model::new(memory, settings, Straps::HIGH);
     model.run_trace(samples, levels)?;

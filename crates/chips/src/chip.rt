@@ -4,6 +4,13 @@ ghost use Rattle.chips.specs.Pins.{Pins, Put, put as levels, put_on, do_of, fact
 ghost use Rattle.chips.specs.Fitting.{Fitting};
 ghost use Rattle.chips.specs.Seen.{seen, stepped};
 
+// The levels of DO, as `put` answers them.
+pub const LOW: u8 = 0;
+
+pub const HIGH: u8 = 1;
+
+pub const HIGH_IMPEDANCE: u8 = 2;
+
 // A chip on its pins, by the pin machine that it means.
 pub trait Chip {
     ghost meaning: { Self → Pins };
@@ -15,12 +22,12 @@ pub trait Chip {
 
     ghost next: { View → Pins → Put → View };
 
-    // The part's number, and the levels of ORG and PE; three numbers together, as every chip is to tell them.
+    // The part's number, and the levels of ORG and PE: three numbers together, by a rule of the project.
     fn facts(&self) -> (u8, u8, u8)
         ensures told { result ≡ facts_of (meaning self.now) }
         ensures fits { Fitting (meaning self.now) };
 
-    // One sample; the answer is DO: 0, 1, or 2 for high impedance, a number since DO buffers hold these bytes.
+    // One sample; the answer is DO, a number since DO buffers hold these bytes.
     fn put(&mut self, cs: bool, sk: bool, di: bool) -> u8
         ensures steps { seen view meaning self.new ≡ stepped next (seen view meaning self.old) (levels cs sk di) }
         ensures answers { result ≡ do_of (put_on (meaning self.old) (levels cs sk di)) };

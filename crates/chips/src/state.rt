@@ -62,7 +62,7 @@ pub enum Decision {
         next: u8,
     },
     // an instruction is whole. Its bits name `cell` and `value` by their places, whatever the kind, which tells whether they mean
-    // something; an enum with fields by kind would ask for a match on it where they are read. `value` is 0 where no data come
+    // something; an enum with fields by kind would ask for a match on the kind where the bits are read. `value` is 0 where no data come
     Instruction {
         kind: Kind,
         width: Width,

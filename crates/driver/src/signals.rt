@@ -9,7 +9,7 @@ ghost use Rattle.wire.specs.Polling.{shows_busy, tries, ready_in, polls, is_read
 ghost use Rattle.wire.specs.Runs.{run};
 ghost use Rattle.wire.specs.Sent.{Sends};
 
-use chips::chip::Chip;
+use chips::chip::{Chip, HIGH, LOW};
 use protocol::instruction::Instruction;
 use protocol::parts::{Organisation, Width};
 use wire::frame::Frame;
@@ -18,11 +18,6 @@ use wire::signals::{clock_bit, end, end_frame, select};
 // How often a polling looks at most.
 const TRIES: u16 = 4096;
 
-// DO as the number that `put` answers, by a rule of the project: while the chip shows busy, and while a 1 comes out.
-const BUSY: u8 = 0;
-
-const HIGH: u8 = 1;
-
 // The frame of an instruction.
 pub(crate) fn send<C: Chip>(chip: &mut C, organisation: Organisation, instruction: Instruction)
     ensures { Sends C.Chip chip.old chip.new (frame_of organisation.part organisation.width instruction) }
@@ -30,12 +25,12 @@ pub(crate) fn send<C: Chip>(chip: &mut C, organisation: Organisation, instructio
     Frame::new(organisation, instruction).send(chip);
 }
 
-// One look at a chip that may be programming: is it ready?
+// One look at a chip that may be programming: is it ready? DO is low while it shows busy.
 fn look<C: Chip>(chip: &mut C) -> bool
     ensures ready { result ≡ not (shows_busy (C.Chip.meaning chip.old)) }
     ensures sent { Sends C.Chip chip.old chip.new (selected ∷ []) }
 {
-    select(chip) != BUSY
+    select(chip) != LOW
 }
 
 // Looks until the chip is ready, at most so many times.
@@ -44,7 +39,7 @@ fn wait<C: Chip>(chip: &mut C, most: u16) -> bool
     ensures ready { result ≡ ready_in most (C.Chip.meaning chip.old) }
     ensures sent { Sends C.Chip chip.old chip.new (tries most (C.Chip.meaning chip.old)) }
 {
-    // tried by `any`: what a closure leaves behind the `&mut` that it holds stays unknown, so `sent` doesn't close
+    // tried by `any`: what a closure leaves behind the `&mut` that it holds stays unknown, and the proof of `sent` does not close
     for _ in 0..most {
         if look(chip) {
             return true;

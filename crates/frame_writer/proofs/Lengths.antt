@@ -1,20 +1,9 @@
--- How many samples bits are, and how many a frame is.
-use Rattle.std.proofs.Common.{◌≡◌, ℕ, zero, suc, ◌+◌, ◌*◌, List, length, arith}
+-- As many bytes as samples.
+use Rattle.std.proofs.Common.{◌≡◌, List, length}
 use Rattle.std.proofs.lemmas.List.{length-map}
 use Rattle.chips.specs.Pins.{Put}
-use Rattle.wire.specs.Frames.{clocks, rest, ending}
-use Rattle.wire.specs.declared.frame.Frame.{Frame}
-use Rattle.wire.specs.Fields.{samples_in}
 use Rattle.protocol.specs.declared.sample.Straps.{Straps}
 use Rattle.frame_writer.specs.Written.{byte_of, bytes_of}
-
-length-clocks : (n code : ℕ) (xs : List Put) → length (clocks n code xs) ≡ 2 * n + length xs
-unfolding clocks
-length-clocks zero code xs = omega arith
-length-clocks (suc n) code xs = omega (arith, length-clocks n code xs)
-
-pub length_frame : (f : Frame) → length (samples_in f) ≡ 2 * f.bits + 2 * f.zeros + 4 + length rest
-length_frame f = omega (arith, length-clocks f.bits f.code (clocks f.zeros 0 ending), length-clocks f.zeros 0 ending)
 
 pub length_bytes : (straps : Straps) (xs : List Put) → length (bytes_of straps.org straps.pe xs) ≡ length xs
 length_bytes straps xs = length-map xs (byte_of straps.org straps.pe)

@@ -6,17 +6,11 @@ ghost use Rattle.frame_writer.specs.Kept.{Kept, kept, keep, blank_at};
 ghost use Rattle.frame_writer.specs.Written.{bytes_of};
 ghost use Rattle.frame_writer.specs.Wrote.{Wrote};
 
-use chips::chip::Chip;
+use chips::chip::{Chip, HIGH_IMPEDANCE};
 use protocol::list::List;
 use protocol::refusal::{Cause, Refusal};
 use protocol::sample::Straps;
 use wire::frame::Frame;
-
-// How many idle samples end a frame.
-const REST: usize = 1;
-
-// DO as the number that `put` answers, by a rule of the project: a blank never drives it.
-const HIGH_IMPEDANCE: u8 = 2;
 
 #[derive(Drop)]
 pub(crate) struct Writer<'t, 's> {
@@ -38,22 +32,13 @@ impl Chip for Writer<'_, '_> {
         (0, 0, 0)
     }
 
-    // A full list stays as it is.
+    // A full list stays as it is, and a blank never drives DO.
     #[tactic(auto, using(crate::proofs::Keeping::kept_more), unfolding(chips::specs::Pins::put_on))]
     fn put(&mut self, cs: bool, sk: bool, di: bool) -> u8 {
         let sample = self.straps.sample(cs, sk, di);
         let _ = self.samples.push(sample.into(), 0);
         HIGH_IMPEDANCE
     }
-}
-
-// The number of samples: CS alone, two for the start bit and for each other bit, CS alone, and rest.
-#[tactic(auto, using(crate::proofs::Lengths::length_frame))]
-fn length(frame: Frame) -> usize
-    ensures { result ≡ length (samples_in frame) }
-{
-    let bits = 1 + frame.bits as usize + frame.zeros as usize;
-    1 + 2 * bits + 1 + REST
 }
 
 impl Writer<'_, '_> {
@@ -71,7 +56,7 @@ impl Writer<'_, '_> {
         ensures adds { Adds self.old.samples.now (bytes_of self.old.straps.org self.old.straps.pe (samples_in frame)) 0 self.new.samples.now result }
         ensures lender { self.new.samples.ghost_name ≡ self.old.samples.ghost_name }
     {
-        if length(frame) > self.samples.left() {
+        if frame.length() > self.samples.left() {
             return Err(Cause::NoRoom.into());
         }
         self.add(frame);

@@ -3,9 +3,10 @@
 
 use listing::file::listing;
 use std::io::Read;
+use trace_file::LIMIT;
 
 // One byte more than a trace file may have. `replay_trace` reads its input so too: a crate for two lines would be longer.
-const ENOUGH: u64 = 65537;
+const ENOUGH: u64 = LIMIT as u64 + 1;
 
 fn run(rt: &HostRuntime) -> anyhow::Result<()> {
     let mut file = Vec::new(rt.alloc());

@@ -4,6 +4,7 @@ ghost use Rattle.protocol.specs.Chosen.{is_offered};
 ghost use Rattle.chips.specs.Control.{power_up};
 ghost use Rattle.chips.specs.Pins.{org_at, pe_at};
 
+use chips::chip::HIGH_IMPEDANCE;
 use chips::control::Control;
 use protocol::parts::Part;
 use protocol::sample::Straps;
@@ -32,7 +33,7 @@ impl Live {
     {
         Live {
             control: Control::new(setup),
-            out: 2,
+            out: HIGH_IMPEDANCE,
             straps: Straps {
                 org: setup.part == Part::C46 || straps.org,
                 pe: setup.edition == Edition::Fall || straps.pe,

@@ -2,6 +2,7 @@
 //! prints the listing, the levels of DO and the bytes that have changed.
 #![tactic(auto)]
 
+use chips::chip::HIGH_IMPEDANCE;
 use listing::file::ENTRIES;
 use listing::lines::text_of;
 use protocol::list::List;
@@ -17,8 +18,7 @@ use traces::replay::replay;
 // One byte more than a trace file may have. `list_trace` reads its input so too: a crate for two lines would be longer.
 const ENOUGH: u64 = LIMIT as u64 + 1;
 
-// The bytes of the part that settings name, 0 of none, which the replay refuses as a memory: an `Option` would be turned into a size
-// at once.
+// The bytes of the part that settings name, 0 of none, when nothing is replayed: an `Option` would be turned into a size at once.
 fn size_of(taken: Result<Settings, Refusal>) -> usize {
     taken
         .ok()
@@ -55,7 +55,7 @@ fn replay_file(rt: &HostRuntime, file: &[u8]) -> anyhow::Result<()> {
     let mut entries = List::new(&mut entries);
     let taken = take_trace(file, &mut samples);
     let mut memory = vec![in rt.alloc(); 255u8; size_of(taken)]?;
-    let mut levels = vec![in rt.alloc(); 2u8; samples.len()]?;
+    let mut levels = vec![in rt.alloc(); HIGH_IMPEDANCE; samples.len()]?;
     let answer = taken.and_then(|settings| {
         replay(
             settings,

@@ -39,6 +39,7 @@ pub fn replay(
 {
     check_replay(settings, memory.len(), samples, levels.len())?;
     read_trace(settings, samples, entries)?;
+    // As in the library for C, which judges and lists nothing beside it: to share these lines would save one.
     // Every sample brings its own levels, so that the straps do not matter.
     let mut model = Model::new(memory, settings, Straps::HIGH);
     model.run_trace(samples, levels)

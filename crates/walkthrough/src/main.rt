@@ -32,7 +32,7 @@ const CYCLES: Cycles = Cycles {
 
 const SETTINGS: Settings = Settings {
     part: PART,
-    edition: 0,
+    edition: Edition::Fall as u8,
     cycles: CYCLES,
 };
 

@@ -11,3 +11,4 @@ pub mod Cells
 pub mod Whole
 pub mod Tells
 pub mod Clocking
+pub mod Lengths

@@ -1,4 +1,4 @@
-//! Samples put on the pins of a chip. Each answer is DO, as `put` gives it.
+//! Samples put on the pins of a chip.
 ghost use Rattle.std.specs.Prelude.{◌≡◌, [], ◌∷◌};
 ghost use Rattle.chips.specs.Pins.{do_of, put_on};
 ghost use Rattle.wire.specs.Frames as frames;
@@ -22,7 +22,7 @@ pub fn end<C: Chip>(chip: &mut C)
     idle(chip);
 }
 
-// CS alone high.
+// CS alone high; the answer is DO, a number as `put` answers it.
 #[tactic(auto, unfolding(crate::specs::Sent::told))]
 pub fn select<C: Chip>(chip: &mut C) -> u8
     ensures sent { Sends C.Chip chip.old chip.new (selected ∷ []) }
@@ -31,7 +31,7 @@ pub fn select<C: Chip>(chip: &mut C) -> u8
     chip.put(true, false, false)
 }
 
-// One bit, with SK low and then high; the answer is DO with SK high.
+// One bit, with SK low and then high; the answer is DO with SK high, a number as `put` answers it.
 #[tactic(auto, unfolding(crate::specs::Sent::told))]
 pub fn clock_bit<C: Chip>(chip: &mut C, bit: bool) -> u8
     ensures sent { Sends C.Chip chip.old chip.new (clock bit []) }

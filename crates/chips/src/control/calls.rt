@@ -3,6 +3,7 @@ ghost use Rattle.std.specs.Prelude.{◌≡◌};
 ghost use Rattle.chips.specs.Control.{power_up};
 ghost use Rattle.chips.specs.Machine.{held};
 
+use crate::chip::{HIGH, HIGH_IMPEDANCE, LOW};
 use crate::control::Control;
 use crate::state::{Phase, State};
 use protocol::settings::Setup;
@@ -36,9 +37,9 @@ impl Control {
     {
         match (self.state.phase, self.state.status) {
             (Phase::Reading { .. }, _) => out,
-            (_, false) => 2,
-            (_, true) if self.state.left == 0 => 1,
-            _ => 0,
+            (_, false) => HIGH_IMPEDANCE,
+            (_, true) if self.state.left == 0 => HIGH,
+            _ => LOW,
         }
     }
 }

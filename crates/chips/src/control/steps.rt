@@ -1,7 +1,7 @@
 //! One sample after the other. All of a step is inlined where it is called, so that a loop over samples keeps the state in registers.
 ghost use Rattle.std.specs.Prelude.{◌≡◌, ◌^◌, ◌<◌, ◌≤◌, true};
 ghost use Rattle.protocol.specs.Parts.{cells_of, bits_of};
-ghost use Rattle.chips.specs.Control.{is_clock_edition, obeyed, ending, ended, deselected, is_clock, is_quiet, read_on, taken, appended, clocked, turned, turn};
+ghost use Rattle.chips.specs.Control.{obeyed, ending, ended, deselected, is_clock, is_quiet, read_on, taken, appended, clocked, turned, turn};
 ghost use Rattle.chips.specs.declared.state.Decision.TheVariants.{Nothing};
 ghost use Rattle.chips.specs.Fits.{PhaseFits, DecisionFits};
 ghost use Rattle.chips.specs.Turning.{Decides, Turns};
@@ -15,12 +15,6 @@ use protocol::sample::Sample;
 use protocol::settings::{Edition, Setup};
 
 impl Control {
-    fn is_clock_edition(&self) -> bool
-        ensures { result ≡ is_clock_edition self.now.setup.edition }
-    {
-        self.setup.edition == Edition::Clock
-    }
-
     // Carries out what was decided.
     #[inline(always)]
     fn obey(&mut self, decision: Decision)
@@ -99,7 +93,7 @@ impl Control {
                 next: 0,
             };
             Decision::Address { width, cell }
-        } else if self.is_clock_edition() && incoming.is_whole() {
+        } else if self.setup.edition == Edition::Clock && incoming.is_whole() {
             let instruction = incoming.instruction(self.permission(pe));
             self.obey(instruction);
             self.state.phase = Phase::Over;

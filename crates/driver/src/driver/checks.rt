@@ -16,7 +16,7 @@ impl<C: Chip> Driver<C> {
     pub(crate) fn shape(&self) -> Result<(Organisation, bool), Refusal>
         ensures { result ≡ shape_on (C.Chip.meaning self.now.chip) }
     {
-        // the facts are three numbers by a rule of the project
+        // the facts are three numbers by a rule of the project; the walkthrough's recorder makes these two tests too, in as many lines
         let (number, org, pe) = self.chip.facts();
         let part = Part::try_from(number).map_err(|_| Cause::BlankChip)?;
         Ok((part.organised(part.width(org == 1)), pe == 1))

@@ -7,6 +7,7 @@ ghost use Rattle.models.specs.Rewriting.{Rewritten};
 
 use crate::cells::Cells;
 use crate::word::Word;
+use chips::chip::LOW;
 use chips::control::Control;
 use chips::state::{Decision, Verdict};
 use protocol::instruction::Kind;
@@ -43,7 +44,7 @@ impl Cells<'_> {
         ensures { result ≡ out_of decision control.now.state self.now.memory.now out }
     {
         match decision {
-            Decision::Address { .. } => 0,
+            Decision::Address { .. } => LOW,
             Decision::Data { width, cell, next } => self.read(width, cell).bit(next),
             _ => control.hold(out),
         }

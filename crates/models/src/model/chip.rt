@@ -5,7 +5,7 @@ ghost use Rattle.models.specs.Meaning.{pins_of};
 
 use crate::cells::Cells;
 use crate::model::Model;
-use chips::chip::Chip;
+use chips::chip::{Chip, HIGH_IMPEDANCE};
 
 // Every byte is below 256: the type says so, of a slice that is passed.
 #[tactic(auto, using(crate::proofs::Small::bytes_small))]
@@ -38,7 +38,7 @@ impl Chip for Model<'_> {
     #[tactic(auto, unfolding(chips::specs::Pins::put_on))]
     fn put(&mut self, cs: bool, sk: bool, di: bool) -> u8 {
         match &mut self.live {
-            None => 2,
+            None => HIGH_IMPEDANCE,
             Some(live) => {
                 let sample = live.straps.sample(cs, sk, di);
                 // as in the trace call: a function for these lines would have to say what becomes of the loan that it hands on

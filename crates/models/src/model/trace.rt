@@ -36,7 +36,7 @@ impl Live {
     {
         let mut control = self.control;
         let mut out = self.out;
-        // a `zip` with the buffer's `iter_mut` leaves its bytes unknown, so that the proof doesn't close
+        // tried by `zip` with the buffer's `iter_mut`: what it leaves in the buffer stays unknown, and the proof does not close
         for (place, byte) in samples.iter().enumerate() {
             out = cells.advance(&mut control, out, Sample::from(*byte));
             levels[place] = out;
@@ -58,6 +58,7 @@ impl Model<'_> {
             None => Err(Cause::BlankChip.into()),
             Some(live) => {
                 check_trace(samples, levels.len())?;
+                // as in `put`, where it is said why no function stands for these lines
                 let memory = &mut *self.memory;
                 let part = live.control.setup().part;
                 let mut cells = Cells { memory, part };

@@ -9,7 +9,7 @@ use crate::refusal::{Cause, Refusal};
 use std::fmt;
 
 impl Kind {
-    // By the opcode and, under opcode 00, the first two address bits.
+    // By the opcode and, under opcode 00, the first two address bits. No `From`: of a pair it would not say which number is which.
     pub fn decode(opcode: u32, first: u32) -> Kind
         ensures { result ≡ kind_of opcode first }
     {

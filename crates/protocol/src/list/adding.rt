@@ -6,7 +6,8 @@ use crate::list::List;
 use crate::refusal::{Cause, Refusal};
 
 impl<T: Copy> List<'_, T> {
-    // The item in the first free place.
+    // The item in the first free place. Tried as an extension by an array of one: the proof that an item of any type fits in memory does
+    // not close without asking more of callers.
     fn store(&mut self, item: T)
         requires { self.old.count < room self.old }
         ensures { Added self.old (item ∷ []) self.new }

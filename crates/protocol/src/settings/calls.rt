@@ -8,7 +8,8 @@ use crate::refusal::{Cause, Refusal};
 use crate::settings::{Edition, Settings, Setup};
 
 impl Part {
-    // The edition with a number, if the part is made in it: the clock edition is made of the 76 and the 86 alone.
+    // The edition with a number, if the part is made in it: the clock edition is made of the 76 and the 86 alone. No `TryFrom`, since it
+    // hangs on the part.
     fn edition(self, number: u8) -> Result<Edition, Cause>
         ensures { result ≡ ok_or (edition_of self number) BadSettings }
     {

@@ -48,7 +48,7 @@ fn address_bits(size: u8, kind: Kind, address: u16) -> u64
     }
 }
 
-// How many data bits there are, and the number that they are.
+// How many data bits there are, and the number that they are, by one test: `Organisation::length` makes it for the bits alone.
 fn data_bits(width: Width, kind: Kind, value: u16) -> (u8, u64)
     ensures is { result ≡ ((if has_data kind then bits_of width else 0), (if has_data kind then value else 0)) }
     ensures few { result.0 ≤ 16 }
