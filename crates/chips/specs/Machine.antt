@@ -79,7 +79,7 @@ held st (Reading width cell next) out = out
 held st Spoiled out = shown st.status st.left
 held st Over out = shown st.status st.left
 
--- and 0 as a READ has its address
+-- DO after a decision: 0 as a READ has its address, then the bits of the cell; in all else as it is held.
 abbrev pub out_of : Decision → State → List ℕ → ℕ → ℕ
 out_of Nothing st bytes out = held st st.phase out
 out_of (Start width) st bytes out = held st st.phase out

@@ -1,4 +1,4 @@
-//! One sample after the other. All of a step is inlined where it is called, so that a loop over samples keeps the state in registers.
+//! One sample after the other. A step is inlined where it is called, so that a loop over samples keeps the state in registers.
 ghost use Rattle.std.specs.Prelude.{◌≡◌, ◌^◌, ◌<◌, ◌≤◌, true};
 ghost use Rattle.protocol.specs.Parts.{cells_of, bits_of};
 ghost use Rattle.chips.specs.Control.{obeyed, ending, ended, deselected, is_clock, is_quiet, read_on, taken, appended, clocked, turned, turn};
