@@ -6,8 +6,8 @@ use Rattle.protocol.specs.declared.settings.Settings.{Settings}
 use Rattle.protocol.specs.declared.settings.Setup.{Setup}
 use Rattle.protocol.specs.Inputs.{Checked}
 use Rattle.chips.specs.Machine.{fresh_machine, run_on, outs}
-use Rattle.models.specs.Powered.{fitted}
-use Rattle.models.specs.Traced.{trace_checked}
+use Rattle.chips.specs.Powered.{fitted}
+use Rattle.chips.specs.Traced.{trace_checked}
 use Rattle.c_surface.specs.declared.answer.Answer.{Answer}
 use Rattle.c_surface.specs.Answers.{ended}
 

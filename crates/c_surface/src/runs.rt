@@ -5,7 +5,7 @@ ghost use Rattle.c_surface.specs.Running.{runnable, bytes_ran, levels_ran, run_a
 
 use crate::answer::Answer;
 use crate::settings::settings_from;
-use models::model::{Model, check};
+use chips::model::{Model, check};
 use protocol::refusal::Refusal;
 use protocol::sample::Straps;
 use protocol::settings::{Settings, Setup};

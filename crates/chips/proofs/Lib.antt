@@ -1,2 +1,5 @@
 pub mod Lengths
-mod Midways
+pub mod Midways
+pub mod Within
+pub mod Small
+pub mod Editions

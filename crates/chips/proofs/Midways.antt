@@ -1,6 +1,6 @@
 -- A bit of an instruction with more than one bit to come is only appended.
-use Rattle.std.proofs.Common.{◌≡◌, ℕ, ◌+◌, ◌*◌, ◌<◌, Bool, true, false, refl, inl, inr, arith}
-use Rattle.std.proofs.lemmas.Bool.{and_right, lt-ltb, ne_eqb}
+use Rattle.std.proofs.Common.{◌≡◌, true, ℕ, ◌+◌, ◌*◌, ◌<◌, false, not, refl, ap, ◌∙◌, inl, inr, arith}
+use Rattle.std.proofs.lemmas.Bool.{and_right, ne_eqb}
 use Rattle.protocol.specs.declared.parts.Width.{Width}
 use Rattle.protocol.specs.declared.sample.Sample.{Sample}
 use Rattle.protocol.specs.declared.settings.Setup.{Setup}
@@ -9,25 +9,35 @@ use Rattle.protocol.specs.Parts.{field_of}
 use Rattle.protocol.proofs.Spans.{kind_stays}
 use Rattle.protocol.proofs.Table.{agreed}
 use Rattle.chips.specs.declared.state.Decision.TheVariants.{Nothing}
-use Rattle.chips.specs.declared.state.Phase.TheVariants.{Taking}
+use Rattle.chips.specs.declared.state.Phase.{Phase}
+use Rattle.chips.specs.declared.state.Phase.TheVariants.{Taking, Spoiled}
 use Rattle.chips.specs.declared.state.State.{State}
-use Rattle.chips.specs.Control.{is_clock_edition, turn_to, in_phase, appended}
+use Rattle.chips.specs.Control.{is_clock_edition, turn_to, in_phase, taken, appended, turned}
 use Rattle.protocol.specs.Samples.{bit_of}
-use Rattle.chips.specs.Fits.{Midway}
-
-bit_small : (di : Bool) → bit_of di < 2
-bit_small true = omega arith
-bit_small false = omega arith
+use Rattle.chips.specs.Fits.{Midway, bits_below}
+use Rattle.chips.proofs.Lengths.{bit_small, spoils}
 
 module _ (setup : Setup) (s : Sample) (width : Width) (count bits : ℕ) (st : State) where
+  abbrev length : ℕ
+  length = length_of setup.part width (kind_at count bits)
+
+  -- below its length an instruction takes the bit
+  pub short_taken : count < length → appended setup s width count bits st ≡ taken setup s.pe width (count + 1) (2 * bits + bit_of s.di) st
+  unfolding appended
+  short_taken h = rw (ne_eqb count length (λ e. omega (arith, h, e)), and_right (not (is_clock_edition setup.edition)) false refl) refl
+
+  -- in taking, and not below its length, it is spoiled
+  pub full_spoiled : count < bits_below setup width count bits → (count < length → ⊥) →
+      appended setup s width count bits st ≡ turn_to Nothing (in_phase Spoiled st)
+  unfolding appended
+  full_spoiled b h = rw (spoils setup width count bits b h) refl
+
   -- it is short, is at no address, and is not at its length with the next bit
-  pub only-appended :
-      count < length_of setup.part width (kind_at count bits) → (count + 1 ≡ 2 + field_of setup.part width → ⊥) →
+  only-appended :
+      count < length → (count + 1 ≡ 2 + field_of setup.part width → ⊥) →
       (count + 1 ≡ length_of setup.part width (kind_at (count + 1) (2 * bits + bit_of s.di)) → ⊥) →
       appended setup s width count bits st ≡ turn_to Nothing (in_phase (Taking width (count + 1) (2 * bits + bit_of s.di)) st)
-  unfolding appended
-  only-appended a b d =
-      rw (lt-ltb _ _ a, ne_eqb _ _ b, ne_eqb _ _ d, and_right (is_clock_edition setup.edition) false refl)
+  only-appended a b d = short_taken a ∙ rw (ne_eqb _ _ b, ne_eqb _ _ d, and_right (is_clock_edition setup.edition) false refl) refl
 
   pub midway : Midway setup.part width count bits →
       appended setup s width count bits st ≡ turn_to Nothing (in_phase (Taking width (count + 1) (2 * bits + bit_of s.di)) st)
@@ -35,3 +45,11 @@ module _ (setup : Setup) (s : Sample) (width : Width) (count bits : ℕ) (st : S
   midway (inr h) =
       let k = kind_stays count bits (bit_of s.di) (omega (arith, h.0, (agreed setup.part width).least)) (bit_small s.di) in
       only-appended (omega (arith, h.1)) (λ e. omega (arith, h.0, e)) (rw k (λ e. omega (arith, h.1, e)))
+
+-- a clock in taking
+pub clock_taken : (setup : Setup) (s : Sample) (st : State) (width : Width) (count bits : ℕ) →
+    s.cs ≡ true → st.cs ≡ true → s.sk ≡ true → st.sk ≡ false → st.left ≡ 0 → st.phase ≡ Taking width count bits →
+    turned setup s st ≡ appended setup s width count bits (in_phase (Taking width count bits) st)
+clock_taken setup s st width count bits a b c d e f =
+    let turns : turned setup s st ≡ appended setup s width count bits st = rw (a, b, c, d, e, f) refl in
+    turns ∙ ap (λ (phase : Phase). appended setup s width count bits (in_phase phase st)) f

@@ -119,12 +119,12 @@ taken setup pe width count bits st =
     (turn_to (instruction_at setup st.enabled pe width count bits) (in_phase Over (obeyed setup (instruction_at setup st.enabled pe width count bits) st)))
     (turn_to Nothing (in_phase (Taking width count bits) st)))
 
--- in taking, DI is appended, but an instruction already at its length is spoiled
+-- in taking, an instruction of the fall edition that is already at its length is spoiled; else DI is appended
 unfoldable pub appended : Setup → Sample → Width → ℕ → ℕ → State → Turn
 appended setup s width count bits st =
-    cond (nat_lt count (length_of setup.part width (kind_at count bits)))
-    (taken setup s.pe width (count + 1) (2 * bits + bit_of s.di) st)
+    cond (not (is_clock_edition setup.edition) && count == length_of setup.part width (kind_at count bits))
     (turn_to Nothing (in_phase Spoiled st))
+    (taken setup s.pe width (count + 1) (2 * bits + bit_of s.di) st)
 
 -- in reading, the next bit of the cell, then the next cell, and cell 0 after the last
 abbrev pub read_on : Part → Width → ℕ → ℕ → Phase

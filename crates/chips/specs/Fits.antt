@@ -1,11 +1,13 @@
 -- What a control keeps true of its phase, and of the decisions that it hands out. In other phases the numbers stand for nothing.
-use Rattle.std.specs.Prelude.{ℕ, ◌+◌, ◌^◌, ◌<◌, ◌≤◌, ◌⊎◌}
+use Rattle.std.specs.Prelude.{ℕ, ◌+◌, ◌<◌, ◌≤◌, cond, ◌⊎◌}
 use Rattle.protocol.specs.declared.parts.Part.{Part}
 use Rattle.protocol.specs.declared.parts.Width.{Width}
+use Rattle.protocol.specs.declared.settings.Setup.{Setup}
 use Rattle.protocol.specs.Instructions.{length_of, kind_at}
 use Rattle.protocol.specs.Parts.{bits_of, ones_of, cells_of, field_of}
 use Rattle.chips.specs.declared.state.Phase.{Phase}
 use Rattle.chips.specs.declared.state.Phase.TheVariants.{Waiting, Taking, Reading, Spoiled, Over}
+use Rattle.chips.specs.Control.{is_clock_edition}
 use Rattle.chips.specs.declared.state.Decision.{Decision}
 use Rattle.chips.specs.declared.state.Decision.TheVariants.{Nothing, Start, Address, Data, Instruction, WrongCount}
 
@@ -53,12 +55,16 @@ bits_in (Reading width cell next) = bits_of width
 bits_in Spoiled = 1
 bits_in Over = 1
 
--- at most 29 bits are taken: opcode, address of up to 11, data of up to 16
-pub record PhaseFits (part : Part) (phase : Phase) : Type 0 where
-  pub count : count_in phase ≤ 29
-  pub value : value_in phase < 2 ^ count_in phase
-  pub cell : cell_in phase < cells_in part phase
-  pub next : next_in phase < bits_in phase
+-- What the count of bits stays below: the length, which only an instruction of the fall edition is at in taking.
+unfoldable pub bits_below : Setup → Width → ℕ → ℕ → ℕ
+bits_below setup width count bits = length_of setup.part width (kind_at count bits) + cond (is_clock_edition setup.edition) 0 1
+
+abbrev pub counts_in : Setup → Phase → ℕ
+counts_in setup Waiting = 1
+counts_in setup (Taking width count bits) = bits_below setup width count bits
+counts_in setup (Reading width cell next) = 1
+counts_in setup Spoiled = 1
+counts_in setup Over = 1
 
 -- a decision names a cell of the part, a bit of the width and a value of the width
 abbrev pub cell_by : Decision → ℕ

@@ -1,9 +1,8 @@
--- What every chip keeps true of its meaning: part, edition and bytes fit the table, and the numbers are in range.
+-- What every chip keeps true of its meaning: part, edition and number of bytes fit the table, and a byte is a byte.
 use Rattle.std.specs.Prelude.{◌≡◌, ℕ, Bool, true, false, ◌&&◌, List, [], ◌∷◌, length, nat_lt}
 use Rattle.protocol.specs.Chosen.{is_offered}
 use Rattle.protocol.specs.Parts.{bytes_of}
-use Rattle.chips.specs.Fits.{PhaseFits}
-use Rattle.chips.specs.Pins.{Pins, org_at, pe_at}
+use Rattle.chips.specs.Pins.{Pins}
 
 -- bytes are below 256
 unfoldable pub are_bytes : List ℕ → Bool
@@ -12,11 +11,8 @@ are_bytes (b ∷ bs) = nat_lt b 256 && are_bytes bs
 
 pub record Fits (p : Pins) : Type 0 where
   pub offered : is_offered p.machine.setup.part p.machine.setup.edition ≡ true
-  pub org : p.org ≡ org_at p.machine.setup.part p.org
-  pub pe : p.pe ≡ pe_at p.machine.setup.edition p.pe
   pub size : length p.machine.bytes ≡ bytes_of p.machine.setup.part
   pub bytes : are_bytes p.machine.bytes ≡ true
-  pub phase : PhaseFits p.machine.setup.part p.machine.state.phase
 
 -- A blank fits as it is.
 abbrev pub Fitting : Pins → Type 0

@@ -6,3 +6,8 @@ pub mod Fitting
 pub mod Seen
 pub mod Turning
 pub mod Verdicts
+pub mod Sizes
+pub mod Powered
+pub mod Meaning
+pub mod Rewriting
+pub mod Traced

@@ -40,11 +40,7 @@ blank_setup = record { part = C46; edition = Fall; cycles = record { write = 0; 
 abbrev pub do_of : Pins → ℕ
 do_of p = cond p.blank 2 p.machine.out
 
--- The facts: the number of the part, the level of ORG, the level of PE; all 0 of a blank.
-abbrev pub facts_of : Pins → ℕ × ℕ × ℕ
-facts_of p = cond p.blank (0, 0, 0) ((row_of p.machine.setup.part).number, bit_of p.org, bit_of p.pe)
-
--- the 46 has ORG high and the fall edition PE high, whatever the straps
+-- The levels that count: the 46 has ORG high and the fall edition PE high, whatever the straps.
 abbrev pub org_at : Part → Bool → Bool
 org_at C46 org = true
 org_at C56 org = org
@@ -55,3 +51,13 @@ org_at C86 org = org
 abbrev pub pe_at : Edition → Bool → Bool
 pe_at Fall pe = true
 pe_at Clock pe = pe
+
+unfoldable pub org_on : Pins → Bool
+org_on p = org_at p.machine.setup.part p.org
+
+unfoldable pub pe_on : Pins → Bool
+pe_on p = pe_at p.machine.setup.edition p.pe
+
+-- The facts: the number of the part, the level of ORG, the level of PE; all 0 of a blank.
+abbrev pub facts_of : Pins → ℕ × ℕ × ℕ
+facts_of p = cond p.blank (0, 0, 0) ((row_of p.machine.setup.part).number, bit_of (org_on p), bit_of (pe_on p))

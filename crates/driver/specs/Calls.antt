@@ -24,11 +24,15 @@ abbrev pub words_on : Pins → ℕ → ℕ → List ℕ
 words_on p address count =
     words_heard (bits_of (width_on p)) count (run p (read_opening p.machine.setup.part (width_on p) address []))
 
+-- what polling answers: a chip that is still programming is refused for the cause given
+abbrev pub found : Cause → Bool → Checked
+found cause ready = cond ready (Ok tt) (Err (refusal cause 0))
+
 module _ {V : Type 0} (next : V → Pins → Put → V) where
-  -- polling; a chip that is still programming is refused for the cause given
+  -- polling
   abbrev pub polled : Cause → State V → Outcome V (Unit {0})
   polled cause s =
-      outcome (cond (is_ready s.chip.pins) (Ok tt) (Err (refusal cause 0))) (sent next (polls s.chip.pins) s)
+      outcome (found cause (is_ready s.chip.pins)) (sent next (polls s.chip.pins) s)
 
   -- a check, and the polling with which every call begins that it lets through
   abbrev pub begun : Checked → State V → Outcome V (Unit {0})

@@ -6,7 +6,7 @@ use Rattle.protocol.specs.Inputs.{inputs as inputs_at}
 pub use Rattle.protocol.specs.Inputs.{Checked}
 use Rattle.protocol.specs.Parts.{cells_of}
 use Rattle.protocol.specs.Refusals.{refusal}
-use Rattle.chips.specs.Pins.{Pins}
+use Rattle.chips.specs.Pins.{Pins, pe_on}
 use Rattle.wire.specs.Places.{width_on}
 
 abbrev pub cells_on : Pins → ℕ
@@ -26,7 +26,7 @@ abbrev pub is_open : Bool → Checked → Checked
 is_open opened rest = cond opened rest (Err (refusal Shut 0))
 
 abbrev pub unprotected : Pins → Checked → Checked
-unprotected p rest = cond p.pe rest (Err (refusal Protected 0))
+unprotected p rest = cond (pe_on p) rest (Err (refusal Protected 0))
 
 -- greet
 abbrev pub greetable : Pins → Checked

@@ -8,15 +8,15 @@ ghost use Rattle.wire.specs.Hearing.{zero_bit, level_of, heard, words_heard};
 ghost use Rattle.wire.specs.Polling.{shows_busy, tries, ready_in, polls, is_ready};
 ghost use Rattle.wire.specs.Runs.{run};
 ghost use Rattle.wire.specs.Sent.{Sends};
+ghost use Rattle.driver.specs.Calls.{found};
 
 use chips::chip::{Chip, HIGH, LOW};
 use protocol::instruction::Instruction;
 use protocol::parts::{Organisation, Width};
+use protocol::refusal::{Cause, Refusal};
 use wire::frame::Frame;
+use wire::polling::most_tries;
 use wire::signals::{clock_bit, end, end_frame, select};
-
-// How often a polling looks at most.
-const TRIES: u16 = 4096;
 
 // The frame of an instruction.
 pub(crate) fn send<C: Chip>(chip: &mut C, organisation: Organisation, instruction: Instruction)
@@ -33,37 +33,38 @@ fn look<C: Chip>(chip: &mut C) -> bool
     select(chip) != LOW
 }
 
-// Looks until the chip is ready, at most so many times.
+// Looks until the chip is ready, at most so many times; one that is not ready then is refused for the cause given.
 #[tactic(auto, using(crate::proofs::Steps::looks))]
-fn wait<C: Chip>(chip: &mut C, most: u16) -> bool
-    ensures ready { result ≡ ready_in most (C.Chip.meaning chip.old) }
+fn wait<C: Chip>(chip: &mut C, most: u16, cause: Cause) -> Result<(), Refusal>
+    ensures answer { result ≡ found cause (ready_in most (C.Chip.meaning chip.old)) }
     ensures sent { Sends C.Chip chip.old chip.new (tries most (C.Chip.meaning chip.old)) }
 {
     // tried by `any`: what a closure leaves behind the `&mut` that it holds stays unknown, and the proof of `sent` does not close
     for _ in 0..most {
         if look(chip) {
-            return true;
+            return Ok(());
         }
     }
-    false
+    Err(cause.into())
 }
 
 #[tactic(auto, using(crate::proofs::Framing::frames))]
-fn wait_and_end<C: Chip>(chip: &mut C, most: u16) -> bool
-    ensures ready { result ≡ ready_in most (C.Chip.meaning chip.old) }
+fn wait_and_end<C: Chip>(chip: &mut C, most: u16, cause: Cause) -> Result<(), Refusal>
+    ensures answer { result ≡ found cause (ready_in most (C.Chip.meaning chip.old)) }
     ensures sent { Sends C.Chip chip.old chip.new (tries most (C.Chip.meaning chip.old) ++ rest) }
 {
-    let ready = wait(chip, most);
+    // the chip is brought to rest whatever was found, so that no `?` stands here
+    let answer = wait(chip, most, cause);
     end(chip);
-    ready
+    answer
 }
 
-// Polling: is the chip ready?
-pub(crate) fn poll<C: Chip>(chip: &mut C) -> bool
-    ensures ready { result ≡ is_ready (C.Chip.meaning chip.old) }
+// Polling: a chip that is still programming is refused for the cause given.
+pub(crate) fn poll<C: Chip>(chip: &mut C, cause: Cause) -> Result<(), Refusal>
+    ensures answer { result ≡ found cause (is_ready (C.Chip.meaning chip.old)) }
     ensures sent { Sends C.Chip chip.old chip.new (polls (C.Chip.meaning chip.old)) }
 {
-    wait_and_end(chip, TRIES)
+    wait_and_end(chip, most_tries(), cause)
 }
 
 // A zero bit, and the bit that comes out under it.

@@ -1,8 +1,10 @@
 -- Two chips alike answer alike until either is found programming.
-use Rattle.std.proofs.Common.{◌≡◌, ℕ, zero, suc, ◌<◌, Bool, true, false, cond, List, [], ◌∷◌, length, get_or, Ok, Err, sym, refl, ap, ◌∙◌, inl, inr, suc-le-suc, zero-le, arith}
+use Rattle.std.proofs.Common.{◌≡◌, ℕ, zero, suc, ◌<◌, ◌≤◌, Bool, true, false, cond, List, [], ◌∷◌, length, get_or, slice_get, Some, Ok, Err, sym, refl, ap, ◌∙◌, inl, inr, suc-le-suc, zero-le, arith}
 use Rattle.std.proofs.lemmas.Bool.{both_ways, cases_Bool, false≢true}
+use Rattle.std.proofs.lemmas.Option.{get_or_from_slice_get, slice_get_within, slice_get-get_or}
 use Rattle.protocol.specs.declared.instruction.Instruction.TheVariants as instruction
 use Rattle.protocol.specs.Parts.{ones_of}
+use Rattle.chips.specs.Fitting.{Fitting}
 use Rattle.chips.specs.Pins.{Pins, facts_of}
 use Rattle.wire.specs.Places.{width_on}
 use Rattle.wire.specs.Hearing.{cells_from}
@@ -10,10 +12,11 @@ use Rattle.driver.specs.Checks.{Checked, admitted}
 use Rattle.driver.specs.Outcome.{state}
 use Rattle.histories.specs.declared.call.Call.{Call}
 use Rattle.histories.specs.declared.call.Call.TheVariants.{Greet, Settle, Open, Shut, Read, Run, Write, Erase, Fill, Clear}
-use Rattle.histories.specs.Events.{Event, Yield, performed, event, events_from, cells_in, unseen, bare_chip}
+use Rattle.histories.specs.Events.{Event, Yield, performed, event, events_from, events_on, cells_in, unseen, bare_chip}
 use Rattle.histories.specs.Book.{is_done}
 use Rattle.histories.specs.Alike.{was_programming, first_cells}
-use Rattle.histories.specs.Laws.{Quiet, SameStart, ChipsAlikeAnswerAlike}
+use Rattle.histories.specs.Laws.{Quiet, SameStart, Alike}
+use Rattle.histories.proofs.Handed.{events_length}
 use Rattle.histories.proofs.Cells.{all_cells, same_words}
 use Rattle.histories.proofs.Checks.{check_of, admitted_finds, SameFacts, same_at, same_check}
 use Rattle.histories.proofs.Effects.{words_for, handed_by, Held, Sound, KeptBy, kept, sound_after, sound_new}
@@ -129,10 +132,14 @@ module _ (x : Call) (s t : Driver) (y z : Yield (Unit {0})) (k : KeptBy x s y) (
         let g : s.greeted ≡ false = grind arith in
         rw (k.first g, l.first (sym peers.greeted ∙ g), h, sym greeted-after ∙ h) at (start g)
 
+-- no event up to place i met a chip that was still programming
+abbrev QuietBy : List Event → List Event → Event → ℕ → Type 0
+QuietBy es fs d i = (j : ℕ) → j ≤ i → (was_programming (get_or es j d) ≡ false) × (was_programming (get_or fs j d) ≡ false)
+
 alike : (xs : List Call) (s t : Driver) → Sound s → Sound t → Peers s t →
     (s.greeted ≡ false → SameStart (first_cells (events_from unseen xs s)) (first_cells (events_from unseen xs t))) →
     (d : Event) (i : ℕ) → i < length xs → let es = events_from unseen xs s in let fs = events_from unseen xs t in
-    Quiet es fs d i → ((get_or es i d).answer ≡ (get_or fs i d).answer) × ((get_or es i d).words ≡ (get_or fs i d).words)
+    QuietBy es fs d i → ((get_or es i d).answer ≡ (get_or fs i d).answer) × ((get_or es i d).words ≡ (get_or fs i d).words)
 unfolding events_from
 alike [] s t one other peers start d i h quiet = absurd (omega arith)
 alike (x ∷ xs) s t one other peers start d zero h quiet =
@@ -150,7 +157,25 @@ alike (x ∷ xs) s t one other peers start d (suc i) h quiet =
     (peers_after x s t y z k l peers one.held e es fs start (kin-after x s t one other peers.kin))
     (start_after_lem x s t y z k l peers one.held e es fs start) d i (omega arith) (λ j b. quiet (suc j) (suc-le-suc b))
 
-pub chips_alike_answer_alike : ChipsAlikeAnswerAlike
-chips_alike_answer_alike xs p q d one other facts start i h quiet =
-    alike xs (state false false (bare_chip p)) (state false false (bare_chip q)) (sound_new p one) (sound_new q other)
-    (record { greeted = refl; opened = refl; kin = kin p q facts; cells = λ g. absurd (false≢true g) }) (λ _. start) d i h quiet
+-- a quiet history has no such event at any place
+quiet_by : (es fs : List Event) (e f : Event) (i : ℕ) → slice_get es i ≡ Some e → slice_get fs i ≡ Some f → Quiet es fs i → QuietBy es fs e i
+quiet_by es fs e f i one other quiet j h =
+    let k = slice_get_within es i e one in
+    let l = slice_get_within fs i f other in
+    quiet j (get_or es j e) (get_or fs j e) h (slice_get-get_or es j e (omega (arith, k, h))) (slice_get-get_or fs j e (omega (arith, l, h)))
+
+pub chips_alike_answer_alike : (xs : List Call) (p q : Pins) → Fitting p → Fitting q → facts_of p ≡ facts_of q →
+    Alike (events_on xs p) (events_on xs q)
+chips_alike_answer_alike xs p q one other facts start i e f at_one at_other quiet =
+    let s = state false false (bare_chip p) in
+    let t = state false false (bare_chip q) in
+    let es = events_from unseen xs s in
+    let fs = events_from unseen xs t in
+    let h = slice_get_within es i e at_one in
+    let a =
+    alike xs s t (sound_new p one) (sound_new q other)
+    (record { greeted = refl; opened = refl; kin = kin p q facts; cells = λ g. absurd (false≢true g) }) (λ _. start) e i
+    (omega (arith, h, events_length xs s)) (quiet_by es fs e f i at_one at_other quiet) in
+    let found : get_or es i e ≡ e = get_or_from_slice_get es i e e at_one in
+    let other_found : get_or fs i e ≡ f = get_or_from_slice_get fs i f e at_other in
+    rw (found, other_found) at a

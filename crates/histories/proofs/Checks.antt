@@ -3,33 +3,20 @@ use Rattle.std.proofs.Common.{◌≡◌, ℕ, ◌^◌, ◌<◌, ◌≤◌, Bool,
 use Rattle.std.proofs.lemmas.Bool.{cases_Bool}
 use Rattle.std.proofs.lemmas.Bool.Decides.{nat_tests}
 use Rattle.protocol.specs.declared.instruction.Instruction.{Instruction}
-use Rattle.protocol.specs.declared.instruction.Instruction.TheVariants as instruction
 use Rattle.protocol.specs.declared.parts.Part.{Part}
 use Rattle.protocol.specs.declared.parts.Width.{Width}
 use Rattle.protocol.specs.declared.parts.Width.TheVariants.{Eight, Sixteen}
 use Rattle.protocol.specs.declared.refusal.Refusal.{Refusal}
 use Rattle.protocol.specs.Instructions.{address_in, value_in}
-use Rattle.protocol.specs.Parts.{bits_of, ones_of}
+use Rattle.protocol.specs.Parts.{bits_of, ones_of, width_by}
 use Rattle.protocol.proofs.Table.{agreed}
-use Rattle.chips.specs.Pins.{Pins}
+use Rattle.chips.specs.Pins.{Pins, org_at, org_on, pe_on}
 use Rattle.wire.specs.Places.{width_on, Sendable}
-use Rattle.driver.specs.Checks.{Checked, cells_on, greetable, admitted, changeable}
+use Rattle.driver.specs.Checks.{cells_on, admitted, changeable}
 use Rattle.histories.specs.declared.call.Call.{Call}
-use Rattle.histories.specs.declared.call.Call.TheVariants.{Greet, Settle, Open, Shut, Read, Run, Write, Erase, Fill, Clear}
+pub use Rattle.histories.specs.Busy.{check_of}
 use Rattle.histories.specs.Book.{is_unfinished}
 use Rattle.histories.specs.Alike.{is_programming}
-
-abbrev pub check_of : Call → Pins → Bool → Bool → Checked
-check_of Greet p greeted opened = greetable p
-check_of Settle p greeted opened = admitted p greeted instruction.Wds
-check_of Open p greeted opened = admitted p greeted instruction.Wen
-check_of Shut p greeted opened = admitted p greeted instruction.Wds
-check_of (Read address) p greeted opened = admitted p greeted (instruction.Read address 1)
-check_of (Run address count) p greeted opened = admitted p greeted (instruction.Read address count)
-check_of (Write address value) p greeted opened = changeable p greeted opened (instruction.Write address value)
-check_of (Erase address) p greeted opened = changeable p greeted opened (instruction.Erase address)
-check_of (Fill value) p greeted opened = changeable p greeted opened (instruction.Wrall value)
-check_of Clear p greeted opened = changeable p greeted opened instruction.Eral
 
 -- what a check that lets a call through has found
 pub record Admitted (p : Pins) (greeted : Bool) (i : Instruction) : Type 0 where
@@ -44,7 +31,7 @@ admitted_finds p greeted i h =
     record { live = grind (arith, nat_tests); met = grind (arith, nat_tests); address = grind (arith, nat_tests); value = grind (arith, nat_tests) }
 
 pub changeable_finds : (p : Pins) (greeted opened : Bool) (i : Instruction) → changeable p greeted opened i ≡ Ok tt →
-    Admitted p greeted i × (opened ≡ true) × (p.pe ≡ true)
+    Admitted p greeted i × (opened ≡ true) × (pe_on p ≡ true)
 changeable_finds p greeted opened i h =
     (admitted_finds p greeted i (grind (arith, nat_tests)), grind (arith, nat_tests), grind (arith, nat_tests))
 
@@ -64,14 +51,19 @@ check_early x p greeted opened e h = (grind arith, grind arith)
 -- the same facts, but of two blanks
 pub record SameFacts (p q : Pins) : Type 0 where
   pub part : p.machine.setup.part ≡ q.machine.setup.part
-  pub org : p.org ≡ q.org
-  pub pe : p.pe ≡ q.pe
+  pub org : org_on p ≡ org_on q
+  pub pe : pe_on p ≡ pe_on q
+
+-- the 46 never reads ORG
+width_at : (part : Part) (org : Bool) → width_by part org ≡ width_by part (org_at part org)
+width_at part org = grind arith
 
 -- they tell all that a part and a width do
 pub same_at : {A : Type 0} (F : Part → Width → A) (p q : Pins) → SameFacts p q →
     F p.machine.setup.part (width_on p) ≡ F q.machine.setup.part (width_on q)
-same_at F p q f = rw (f.part, f.org)
+unfolding org_on
+same_at F p q f = rw (width_at p.machine.setup.part p.org, f.org, f.part, ← width_at q.machine.setup.part q.org)
 
 pub same_check : (x : Call) (p q : Pins) (greeted opened : Bool) → p.blank ≡ q.blank → (p.blank ≡ false → SameFacts p q) →
     check_of x p greeted opened ≡ check_of x q greeted opened
-same_check x p q greeted opened b same = elim (cases_Bool p.blank) [ inl h ↦ grind arith | inr h ↦ let s = same h in grind arith ]
+same_check x p q greeted opened b same = elim (cases_Bool p.blank) [ inl h ↦ grind arith | inr h ↦ let s = same h in let w = same_at (λ _ width. width) p q s in grind arith ]

@@ -10,7 +10,7 @@ use Rattle.protocol.specs.Parts.{ones_of}
 use Rattle.protocol.specs.Refusals.{refusal}
 use Rattle.protocol.proofs.Table.{agreed}
 use Rattle.chips.specs.Fitting.{Fits, Fitting}
-use Rattle.chips.specs.Pins.{Pins, put_on}
+use Rattle.chips.specs.Pins.{Pins, put_on, pe_on}
 use Rattle.wire.specs.Frames.{idle}
 use Rattle.wire.specs.Places.{width_on, Rest, placed, rest_state, resting, carried_out}
 use Rattle.wire.proofs.Cells.{cells_within}
@@ -204,6 +204,7 @@ module _ (s : Driver) (sound : Sound s) where
       check_of x pins s.greeted s.opened ≡ check → is_read (kind_in i) ≡ false → is_change (kind_in i) ≡ true →
       (Fits pins → Admitted pins s.greeted i → all_cells pins.machine.setup.part (width_on pins) (changed_bytes pins i) ≡ book) →
       Kept (aim x check [] s.opened book) s (plain (calls.changed unseen i s))
+  unfolding pe_on
   changed-kept x i book is other change cells =
       let a = aim x (changeable pins s.greeted s.opened i) [] s.opened book in
       let found = changeable_finds pins s.greeted s.opened i in

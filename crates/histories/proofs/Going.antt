@@ -1,5 +1,5 @@
 -- A list of calls, performed in a loop.
-use Rattle.std.proofs.Common.{◌≡◌, ℕ, zero, suc, ◌+◌, ◌-◌, ◌<◌, ◌≤◌, Bool, true, false, List, [], ◌∷◌, ◌++◌, length, get_or, take, drop, Ok, Err, Result, sym, refl, ap, ◌∙◌, append_assoc, arith, leb-true, le_of_eq}
+use Rattle.std.proofs.Common.{◌≡◌, ℕ, ◌+◌, ◌-◌, ◌<◌, ◌≤◌, Bool, true, false, cond, List, [], ◌∷◌, ◌++◌, length, get_or, take, drop, Ok, Result, sym, refl, ap, ◌∙◌, append_assoc, arith, leb-true, le_refl, zero-le}
 use Rattle.std.proofs.lemmas.List.{append-nil, take_more, take_all}
 use Rattle.std.proofs.lemmas.Bool.{and_parts}
 use Rattle.protocol.specs.declared.list.List.{List as Held}
@@ -7,16 +7,15 @@ use Rattle.protocol.specs.declared.refusal.Refusal.{Refusal}
 use Rattle.protocol.specs.Lists.{room, Added}
 use Rattle.protocol.proofs.Adding.{added_none, added_twice}
 use Rattle.chips.specs.Pins.{Pins, Put}
-use Rattle.wire.specs.Hearing.{words_heard, after_bits}
-use Rattle.driver.specs.Calls.{words_on, filled_by}
 use Rattle.chips.specs.Seen.{Seen}
-use Rattle.driver.specs.Outcome.{State, state, outcome, then}
+use Rattle.driver.specs.Outcome.{State, state}
 use Rattle.histories.specs.declared.call.Call.{Call}
-use Rattle.histories.specs.declared.call.Call.TheVariants.{Greet, Settle, Open, Shut, Read, Run, Write, Erase, Fill, Clear}
+use Rattle.histories.specs.declared.told.Told.{Told}
 use Rattle.histories.specs.Events.{Answer, Event, event, performed, events_from, end_from}
 use Rattle.histories.proofs.Views.{seen_by, events_by}
 use Rattle.histories.proofs.Keeping.{end_keeps}
 use Rattle.histories.proofs.Performs.{wanted_on}
+use Rattle.histories.proofs.Filling.{handed_count}
 use Rattle.histories.specs.Performing.{wanted_by, words_wanted, answers_in, words_in, has_room, PerformedOne, Performed, Performs}
 
 -- one event more
@@ -30,10 +29,9 @@ unfolding words_in
 words_more [] e = append-nil e.words
 words_more (x ∷ es) e = ap (λ (ws : List ℕ). x.words ++ ws) (words_more es e) ∙ sym (append_assoc x.words (words_in es) e.words)
 
-words_length : (bits n : ℕ) (p : Pins) → length (words_heard bits n p) ≡ n
-unfolding words_heard
-words_length bits zero p = refl
-words_length bits (suc n) p = ap suc (words_length bits n (after_bits bits p))
+cond_most : (b : Bool) (n : ℕ) → cond b n 0 ≤ n
+cond_most true n = le_refl n
+cond_most false n = zero-le
 
 module _ {V : Type 0} (next : V → Pins → Put → V) where
   end_more : (xs : List Call) (x : Call) (s : State V) → end_from next (xs ++ x ∷ []) s ≡ (performed next x (end_from next xs s)).after
@@ -48,50 +46,35 @@ module _ {V : Type 0} (next : V → Pins → Put → V) where
   events_more (y ∷ ys) x s = ap (λ (es : List Event). event y (performed next y s) ∷ es) (events_more ys x (performed next y s).after)
 
   -- no call hands out more words than it may
-  fetched-most : (address count : ℕ) (r : Result (Unit {0}) Refusal) (u : State V) (after : State V → State V) →
-      length (filled_by (then r u (λ _ v. outcome {T = List ℕ} (Ok (words_on v.chip.pins address count)) (after v))).answer []) ≤ count
-  fetched-most address count (Ok _) u after = le_of_eq (words_length _ count _)
-  fetched-most address count (Err e) u after = omega arith
-
   words_most : (x : Call) (s : State V) → length (performed next x s).words ≤ wanted_by x
-  words_most Greet s = omega arith
-  words_most Settle s = omega arith
-  words_most Open s = omega arith
-  words_most Shut s = omega arith
-  words_most (Read address) s = fetched-most address 1 _ _ _
-  words_most (Run address count) s = fetched-most address count _ _ _
-  words_most (Write address value) s = omega arith
-  words_most (Erase address) s = omega arith
-  words_most (Fill value) s = omega arith
-  words_most Clear s = omega arith
+  words_most x s = rw (handed_count next x s) (cond_most _ (wanted_by x))
 
   -- after i calls
-  pub record Going (calls : List Call) (s t : State V) (answers answers' : Held Answer) (words words' : Held ℕ) (i : ℕ) : Type 0 where
-    pub performed : Performed next (take i calls) s t answers answers' words words'
-    pub answers_fit : answers'.count + (length calls - i) ≤ room answers'
-    pub words_fit : words'.count + words_wanted (drop i calls) ≤ room words'
+  pub record Going (calls : List Call) (s t : State V) (old told : Told) (i : ℕ) : Type 0 where
+    pub performed : Performed next (take i calls) s t old told
+    pub answers_fit : told.answers.count + (length calls - i) ≤ room told.answers
+    pub words_fit : told.words.count + words_wanted (drop i calls) ≤ room told.words
 
-  pub begun : (calls : List Call) (s : State V) (answers : Held Answer) (words : Held ℕ) → has_room calls answers words ≡ true →
-      Going calls s s answers answers words words 0
+  pub begun : (calls : List Call) (s : State V) (told : Told) → has_room calls told ≡ true → Going calls s s told told 0
   unfolding events_from end_from answers_in words_in
-  begun calls s answers words h =
+  begun calls s told h =
       let k = and_parts _ _ h in
-      let a : length calls ≤ room answers - answers.count = leb-true _ _ k.0 in
-      let w : words_wanted calls ≤ room words - words.count = leb-true _ _ k.1 in
+      let a : length calls ≤ room told.answers - told.answers.count = leb-true _ _ k.0 in
+      let w : words_wanted calls ≤ room told.words - told.words.count = leb-true _ _ k.1 in
       record {
-        performed = record { ends = refl; answered = added_none answers; handed = added_none words };
-        answers_fit = omega (arith, a, answers.within);
-        words_fit = omega (arith, w, words.within);
+        performed = record { ends = refl; answered = added_none told.answers; handed = added_none told.words };
+        answers_fit = omega (arith, a, told.answers.within);
+        words_fit = omega (arith, w, told.words.within);
       }
 
-  module _ (calls : List Call) (s t : State V) (answers answers' : Held Answer) (words words' : Held ℕ) (i : ℕ)
-      (g : Going calls s t answers answers' words words' i) where
-    pub fits : (d : Call) → i < length calls → words'.count + wanted_by (get_or calls i d) ≤ room words'
+  module _ (calls : List Call) (s t : State V) (old told : Told) (i : ℕ) (g : Going calls s t old told i) where
+    pub fits : (d : Call) → i < length calls → told.words.count + wanted_by (get_or calls i d) ≤ room told.words
     fits d h = omega (arith, wanted_on calls i d h, g.words_fit)
 
-    pub more : (d : Call) (u : State V) (answers'' : Held Answer) (words'' : Held ℕ) (r : Answer) → i < length calls →
-        PerformedOne next (get_or calls i d) t u words' words'' r → Added answers' (r ∷ []) answers'' → Going calls s u answers answers'' words words'' (i + 1)
-    more d u answers'' words'' r h one a =
+    pub more : (d : Call) (u : State V) (answers : Held Answer) (words : Held ℕ) (r : Answer) → i < length calls →
+        PerformedOne next (get_or calls i d) t u told.words words r → Added told.answers (r ∷ []) answers →
+        Going calls s u old (record { answers = answers; words = words }) (i + 1)
+    more d u answers words r h one a =
         let x = get_or calls i d in
         let p = g.performed in
         let e : take (i + 1) calls ≡ take i calls ++ x ∷ [] = take_more calls i d h in
@@ -106,14 +89,14 @@ module _ {V : Type 0} (next : V → Pins → Put → V) where
           performed =
               record {
                 ends = one.after ∙ ap (λ (y : _). y.after) (sym at) ∙ sym (end_more (take i calls) x s) ∙ ap (λ (xs : List Call). end_from next xs s) (sym e);
-                answered = rw (e, rs) (added_twice answers answers' answers'' _ _ p.answered a);
-                handed = rw (e, ws) (added_twice words words' words'' _ _ p.handed one.handed);
+                answered = rw (e, rs) (added_twice old.answers told.answers answers _ _ p.answered a);
+                handed = rw (e, ws) (added_twice old.words told.words words _ _ p.handed one.handed);
               };
           answers_fit = omega (arith, g.answers_fit, a.counts, a.same_room);
           words_fit = omega (arith, wanted_on calls i d h, g.words_fit, one.handed.counts, one.handed.same_room, words_most x t);
         }
 
-    pub done : length calls ≤ i → Performed next calls s t answers answers' words words'
+    pub done : length calls ≤ i → Performed next calls s t old told
     done h = rw (take_all i calls h) at g.performed
 
 -- a chip that was lent, and what it keeps: what it kept, and whose it is
@@ -134,11 +117,10 @@ lender_kept {V = V} {L = L} next calls s t e =
     ∙ end_keeps (lent next) (λ x. x.view.0 ≡ s.chip.view.0) (λ x y h. h) calls s refl
 
 -- a whole list, by a new driver on such a chip
-pub performs : {V L : Type 0} (next : V → Pins → Put → V) (calls : List Call) (name : L) (chip chip' : Seen V) (s t : State (L × V))
-    (answers answers' : Held Answer) (words words' : Held ℕ) (fit : Bool) (r : Result (Unit {0}) Refusal) → true ≡ fit →
-    s ≡ state false false (lent_chip name chip) → r ≡ Ok tt → Performed (lent next) calls s t answers answers' words words' →
-    chip' ≡ seen_by own_view t.chip → Performs next fit calls chip chip' answers answers' words words' r
-performs {V = V} {L = L} next calls name chip chip' s t answers answers' words words' fit r f e d p c =
+pub performs : {V L : Type 0} (next : V → Pins → Put → V) (calls : List Call) (name : L) (chip chip' : Seen V) (s t : State (L × V)) (old new : Told)
+    (fit : Bool) (r : Result (Unit {0}) Refusal) → true ≡ fit → s ≡ state false false (lent_chip name chip) → r ≡ Ok tt →
+    Performed (lent next) calls s t old new → chip' ≡ seen_by own_view t.chip → Performs next fit calls chip chip' old new r
+performs {V = V} {L = L} next calls name chip chip' s t old new fit r f e d p c =
     let same = events_by {V = L × V} own_view (lent next) next (λ _ _ _. refl) calls (state false false (lent_chip name chip)) in
     let ends : t ≡ end_from (lent next) calls (state false false (lent_chip name chip)) = p.ends ∙ ap (end_from (lent next) calls) e in
     rw (← f) (

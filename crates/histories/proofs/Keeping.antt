@@ -1,16 +1,18 @@
 -- Whatever every sample keeps, every call keeps: the facts among it, and whose a chip is that was lent.
-use Rattle.std.proofs.Common.{◌≡◌, ℕ, Bool, true, false, List, [], ◌∷◌, Ok, Err, Result, refl, ◌∙◌, arith}
+use Rattle.std.proofs.Common.{◌≡◌, ℕ, Bool, true, false, List, [], ◌∷◌, Ok, Err, Result, sym, refl, ap, ◌∙◌}
 use Rattle.protocol.specs.declared.instruction.Instruction.{Instruction}
 use Rattle.protocol.specs.declared.instruction.Instruction.TheVariants as instruction
 use Rattle.protocol.specs.declared.refusal.Cause.{Cause}
 use Rattle.protocol.specs.declared.refusal.Cause.TheVariants.{Busy, Unfinished}
 use Rattle.protocol.specs.declared.refusal.Refusal.{Refusal}
+use Rattle.protocol.specs.declared.settings.Setup.{Setup}
 use Rattle.chips.specs.Fitting.{Fitting}
-use Rattle.chips.specs.Pins.{Pins, Put, put_on}
+use Rattle.chips.specs.Pins.{Pins, Put, put_on, org_at, org_on, pe_at, pe_on}
 use Rattle.chips.specs.Seen.{Seen, stepped}
 use Rattle.wire.specs.Frames.{idle}
 use Rattle.wire.specs.Polling.{polls}
 use Rattle.wire.proofs.Keeping.{put_keeps_fits}
+use Rattle.wire.proofs.Tells.{put-setup}
 use Rattle.driver.specs.Checks.{Checked, greetable, admitted, changeable}
 use Rattle.driver.specs.Outcome.{State, Outcome, outcome, then, bind, sent}
 use Rattle.wire.specs.Sent.{told}
@@ -91,11 +93,17 @@ pub record Later (p q : Pins) : Type 0 where
   pub fitting : Fitting q
 
 put_later : (p q : Pins) (x : Put) → Later p q → Later p (put_on q x)
-unfolding put_on
+unfolding put_on org_on pe_on
 put_later p q x l =
+    let same : q.machine.setup ≡ (put_on q x).machine.setup = sym (put-setup q x) in
     record {
       blank = l.blank;
-      facts = record { part = l.facts.part ∙ grind arith; org = l.facts.org; pe = l.facts.pe };
+      facts =
+          record {
+            part = l.facts.part ∙ ap (λ (u : Setup). u.part) same;
+            org = l.facts.org ∙ ap (λ (u : Setup). org_at u.part q.org) same;
+            pe = l.facts.pe ∙ ap (λ (u : Setup). pe_at u.edition q.pe) same;
+          };
       fitting = λ live. put_keeps_fits q x live (l.fitting live);
     }
 

@@ -4,9 +4,12 @@ pub mod Checks
 pub mod Keeping
 pub mod Sending
 pub mod Effects
+pub mod Handed
+pub mod Busy
 pub mod Truth
 pub mod Agreement
 pub mod Performs
+pub mod Filling
 pub mod Going
 pub mod Carried
 pub mod Recorded

@@ -25,4 +25,4 @@ pub none_filled : (x : Result (List ℕ) Refusal) → (as_done x ≡ Ok tt) ⊎ 
 none_filled (Ok words) = inl refl
 none_filled (Err e) = inr refl
 
-pub ruleset running = (none_filled, added_none)
+pub ruleset reading = (none_filled, added_none)

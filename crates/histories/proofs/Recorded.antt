@@ -1,6 +1,5 @@
 -- The machine of a chip runs the samples that the calls put, so the entries of these account for its bytes.
 use Rattle.std.proofs.Common.{◌≡◌, ℕ, Bool, true, false, List, [], ◌∷◌, ◌++◌, Ok, Result, sym, refl, ap, ◌∙◌, arith}
-use Rattle.protocol.specs.declared.list.List.{List as Held}
 use Rattle.protocol.specs.declared.refusal.Refusal.{Refusal}
 use Rattle.protocol.specs.declared.sample.Sample.{Sample}
 use Rattle.protocol.specs.Samples.{levels, byte_of}
@@ -12,7 +11,8 @@ use Rattle.wire.proofs.Keeping.{put_is, put_keeps_blank}
 use Rattle.traces.proofs.Accounts.{accounted}
 use Rattle.driver.specs.Outcome.{state}
 use Rattle.histories.specs.declared.call.Call.{Call}
-use Rattle.histories.specs.Events.{Answer, end_of}
+use Rattle.histories.specs.declared.told.Told.{Told}
+use Rattle.histories.specs.Events.{end_of}
 use Rattle.histories.specs.Performing.{Performs}
 use Rattle.histories.specs.Recorded.{logged, unlogged_chip, samples_on, BytesAccounted}
 use Rattle.histories.proofs.Keeping.{end_keeps}
@@ -64,10 +64,8 @@ ended next calls chip setup bytes live fresh =
     ∙ ap (λ (m : Machine). (run_on m (samples_on calls p)).bytes) fresh
     ∙ accounted setup (samples_on calls p) bytes
 
-pub recorded : {V : Type 0} (next : V → Pins → Put → V) (fit : Bool) (calls : List Call) (chip chip' : Seen V)
-    (answers answers' : Held Answer) (words words' : Held ℕ) (r : Result (Unit {0}) Refusal) →
-    Performs next fit calls chip chip' answers answers' words words' r → r ≡ Ok tt → BytesAccounted calls chip.pins chip'.pins
-recorded {V = V} next true calls chip chip' answers answers' words words' r h ok setup bytes live fresh =
+pub recorded : {V : Type 0} (next : V → Pins → Put → V) (fit : Bool) (calls : List Call) (chip chip' : Seen V) (old new : Told)
+    (r : Result (Unit {0}) Refusal) → Performs next fit calls chip chip' old new r → r ≡ Ok tt → BytesAccounted calls chip.pins chip'.pins
+recorded {V = V} next true calls chip chip' old new r h ok setup bytes live fresh =
     ap (λ (x : Seen V). x.pins.machine.bytes) h.1 ∙ ended next calls chip setup bytes live fresh
-recorded {V = V} next false calls chip chip' answers answers' words words' r h ok setup bytes live fresh =
-    absurd (ok_not_err tt _ (sym ok ∙ h.0))
+recorded {V = V} next false calls chip chip' old new r h ok setup bytes live fresh = absurd (ok_not_err tt _ (sym ok ∙ h.0))

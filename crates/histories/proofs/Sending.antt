@@ -1,5 +1,5 @@
 -- What polling and frames do to a chip at rest.
-use Rattle.std.proofs.Common.{◌≡◌, ℕ, ◌-◌, ◌*◌, ◌%◌, ◌<◌, Bool, true, false, cond, List, [], ◌∷◌, Ok, Err, sym, refl, ap, ◌∙◌, subst, inl, inr, mod-eq_of_lt, arith, lit<, lit≤}
+use Rattle.std.proofs.Common.{◌≡◌, ℕ, ◌-◌, ◌*◌, ◌%◌, ◌<◌, Bool, true, false, cond, List, [], ◌∷◌, Ok, Err, sym, refl, ap, ◌∙◌, subst, inl, inr, mod-eq_of_lt, arith}
 use Rattle.std.proofs.lemmas.Bool.Decides.{leb_tells}
 use Rattle.protocol.specs.declared.instruction.Instruction.{Instruction}
 use Rattle.protocol.specs.declared.instruction.Instruction.TheVariants as instruction
@@ -15,7 +15,7 @@ use Rattle.chips.specs.declared.state.Verdict.TheVariants.{CarriedOut}
 use Rattle.chips.specs.Control.{verdict_of, turn}
 use Rattle.chips.specs.Fitting.{Fits}
 use Rattle.chips.specs.Machine.{changed}
-use Rattle.chips.specs.Pins.{Pins, Put, put_on}
+use Rattle.chips.specs.Pins.{Pins, Put, put_on, pe_at, pe_on}
 use Rattle.wire.specs.Frames.{idle, frame_of, plain_frame, clocks, ending}
 use Rattle.wire.specs.Hearing.{cells_from, words_heard}
 use Rattle.wire.specs.Places.{width_on, left_on, Rest, Ready, Sendable, placed, rest_state, resting, carried_out, reading}
@@ -63,7 +63,7 @@ pub ready_at : (p : Pins) → p.blank ≡ false → Ready (resting p 0)
 ready_at p live = record { rest = rest-placed p _ 0 _ live; none = refl }
 
 -- a frame that is no READ's
-frame_is : (part : Part) (width : Width) (i : Instruction) → is_read (kind_in i) ≡ false →
+pub frame_is : (part : Part) (width : Width) (i : Instruction) → is_read (kind_in i) ≡ false →
     frame_of part width i ≡ plain_frame part width (kind_in i) (address_in i) (value_in i)
 unfolding frame_of
 frame_is part width i h = grind arith
@@ -79,15 +79,7 @@ abbrev pub words_in : Pins → ℕ → ℕ → List ℕ
 words_in p address count = cells_from p.machine.setup.part (width_on p) p.machine.bytes count address
 
 pub fits-resting : (p : Pins) → Fits p → Fits (resting p 0)
-fits-resting p f =
-    record {
-      offered = f.offered;
-      org = f.org;
-      pe = f.pe;
-      size = f.size;
-      bytes = f.bytes;
-      phase = record { count = lit≤ tt; value = lit< tt; cell = lit< tt; next = lit< tt };
-    }
+fits-resting p f = record { offered = f.offered; size = f.size; bytes = f.bytes }
 
 pub words_read : (p : Pins) (address count : ℕ) → Ready p → Fits p → Sendable p address 0 → address < cells_on p →
     calls.words_on p address count ≡ words_in p address count
@@ -106,15 +98,16 @@ read_sent s address count ready send =
     ∙ ap (at s) (read_opens_cell p address (clocks n 0 ending) ready send ∙ heard_is_run (reading p address) n ending ∙ read_rests p address n ready)
 
 -- a change that an open chip takes
-verdict_is : (edition : Edition) (enabled pe : Bool) (kind : Kind) → enabled ≡ true → pe ≡ true → verdict_of edition enabled pe kind ≡ CarriedOut
+verdict_is : (edition : Edition) (enabled pe : Bool) (kind : Kind) → enabled ≡ true → pe_at edition pe ≡ true → verdict_of edition enabled pe kind ≡ CarriedOut
 verdict_is edition enabled pe kind e h = grind arith
 
 abbrev pub changed_bytes : Pins → Instruction → List ℕ
 changed_bytes p i =
     changed p.machine.setup.part (kind_in i) (width_on p) (address_in i % cells_on p) (cond (has_data (kind_in i)) (value_in i) 0) p.machine.bytes
 
-pub change_carried : (p : Pins) (i : Instruction) → is_change (kind_in i) ≡ true → p.machine.state.enabled ≡ true → p.pe ≡ true →
+pub change_carried : (p : Pins) (i : Instruction) → is_change (kind_in i) ≡ true → p.machine.state.enabled ≡ true → pe_on p ≡ true →
     (left : ℕ) × (carried_out p (kind_in i) (address_in i) (value_in i) ≡ placed p (rest_state true left) (changed_bytes p i) 2)
+unfolding pe_on
 change_carried p i c e h =
     let v = verdict_is p.machine.setup.edition p.machine.state.enabled p.pe (kind_in i) e h in
     (left_on (carried_out p (kind_in i) (address_in i) (value_in i)), grind arith)

@@ -1,6 +1,7 @@
 -- Every word that a history hands out is what the book then holds for its cell.
 use Rattle.std.proofs.Common.{◌≡◌, ℕ, zero, suc, ◌+◌, ◌%◌, ◌<◌, Bool, true, false, cond, List, [], ◌∷◌, length, get_or, take, Some, None, Ok, Err, Option, sym, refl, ap, ◌∙◌, inl, inr, arith}
 use Rattle.std.proofs.lemmas.Bool.{both_ways, cond_both}
+use Rattle.std.proofs.lemmas.Option.{get_or_from_slice_get, slice_get_within}
 use Rattle.protocol.specs.declared.instruction.Instruction.TheVariants as instruction
 use Rattle.protocol.specs.Parts.{ones_of}
 use Rattle.chips.specs.Pins.{Pins}
@@ -10,9 +11,10 @@ use Rattle.driver.specs.Checks.{Checked, admitted}
 use Rattle.driver.specs.Outcome.{state}
 use Rattle.histories.specs.declared.call.Call.{Call}
 use Rattle.histories.specs.declared.call.Call.TheVariants.{Greet, Settle, Open, Shut, Read, Run, Write, Erase, Fill, Clear}
-use Rattle.histories.specs.Events.{Event, Yield, performed, event, events_from, cells_in, unseen, bare_chip}
-use Rattle.histories.specs.Book.{is_done, fed, book_after}
-use Rattle.histories.specs.Laws.{reads_from, InBook, WordsAreLastAccepted}
+use Rattle.chips.specs.Fitting.{Fitting}
+use Rattle.histories.specs.Events.{Event, Yield, performed, event, events_from, end_from, events_on, end_on, cells_in, unseen, bare_chip}
+use Rattle.histories.specs.Book.{is_done, fed, book_after, book_of}
+use Rattle.histories.specs.Laws.{reads_from, InBook, Believed, Truthful}
 use Rattle.histories.proofs.Cells.{from_all}
 use Rattle.histories.proofs.Checks.{admitted_finds, same_at}
 use Rattle.histories.proofs.Effects.{handed_by, KeptBy, Sound, kept, sound_after, sound_new}
@@ -95,5 +97,31 @@ truthful (x ∷ xs) b s ones o sound suits d (suc i) k h l =
     truthful xs (fed ones b (event x y)) y.after ones (o ∙ same) (sound_after s sound x) (rw o (book_fed x s y (kept s sound x) b suits)) d i k
     (omega arith) l
 
-pub words_are_last_accepted : WordsAreLastAccepted
-words_are_last_accepted xs p d fitting = truthful xs None (state false false (bare_chip p)) (ones_of (width_on p)) refl (sound_new p fitting) refl d
+suits_end : (xs : List Call) (b : Option (List ℕ)) (s : Driver) (ones : ℕ) → ones ≡ ones_of (width_on s.chip.pins) → Sound s → Suits b s →
+    Suits (book_after ones b (events_from unseen xs s)) (end_from unseen xs s)
+unfolding events_from end_from book_after
+suits_end [] b s ones o sound suits = suits
+suits_end (x ∷ xs) b s ones o sound suits =
+    let y = performed unseen x s in
+    let same = same_at (λ _ width. ones_of width) _ _ (call_later unseen x s sound.fitting).facts in
+    suits_end xs (fed ones b (event x y)) y.after ones (o ∙ same) (sound_after s sound x) (rw o (book_fed x s y (kept s sound x) b suits))
+
+believed_by : (b : Option (List ℕ)) (s : Driver) → Suits b s → Believed b (cells_in s.chip.pins)
+believed_by None s suits = tt
+believed_by (Some book) s suits = suits.1
+
+-- in the end the book is what the cells of the chip hold
+pub book_is_believed : (xs : List Call) (p : Pins) → Fitting p → Believed (book_of (ones_of (width_on p)) (events_on xs p)) (cells_in (end_on xs p))
+book_is_believed xs p fitting =
+    let s = state false false (bare_chip p) in
+    believed_by _ (end_from unseen xs s) (suits_end xs None s (ones_of (width_on p)) refl (sound_new p fitting) refl)
+
+pub words_are_last_accepted : (xs : List Call) (p : Pins) → Fitting p → Truthful (ones_of (width_on p)) (events_on xs p)
+words_are_last_accepted xs p fitting i k e word at in_words =
+    let es = events_from unseen xs (state false false (bare_chip p)) in
+    let found : get_or es i e ≡ e = get_or_from_slice_get es i e e at in
+    let is : get_or e.words k 0 ≡ word = get_or_from_slice_get e.words k word 0 in_words in
+    rw (← is)
+    (rw found at
+    (truthful xs None (state false false (bare_chip p)) (ones_of (width_on p)) refl (sound_new p fitting) refl e i k (slice_get_within es i e at)
+    (rw found (slice_get_within e.words k word in_words))))

@@ -16,8 +16,7 @@ use Rattle.wire.specs.Sent.{told}
 use Rattle.driver.specs.Calls as calls
 use Rattle.histories.specs.declared.call.Call.{Call}
 use Rattle.histories.specs.declared.call.Call.TheVariants.{Greet, Settle, Open, Shut, Read, Run, Write, Erase, Fill, Clear}
-use Rattle.histories.specs.Events.{Yield, plain, handed, performed, event, events_from, end_from, unseen}
-use Rattle.histories.specs.Laws.{ViewsDoNotMatter}
+use Rattle.histories.specs.Events.{Yield, plain, handed, performed, event, events_from, end_from, events_of, events_on, end_of, end_on, unseen}
 
 -- seen by less: of its own view a chip shows only what f tells
 module _ {V W : Type 0} (f : V → W) where
@@ -121,8 +120,9 @@ module _ {V W : Type 0} (f : V → W) (next : V → Pins → Put → V) (less : 
         more.1 ∙ ap (λ y. end_from less xs y.after) e,
       )
 
--- with nothing seen but its meaning
-pub views_do_not_matter : {V : Type 0} → ViewsDoNotMatter V
+-- What a chip keeps of the samples beside its meaning changes no event, and nothing of what the chip means in the end.
+pub views_do_not_matter : {V : Type 0} (next : V → Pins → Put → V) (xs : List Call) (chip : Seen V) →
+    (events_of next xs chip ≡ events_on xs chip.pins) × ((end_of next xs chip).pins ≡ end_on xs chip.pins)
 views_do_not_matter next xs chip =
     let e = events_by (λ _. tt) next unseen (λ _ _ _. refl) xs (state _ _ chip) in
     (e.0, ap (λ s. s.chip.pins) e.1)

@@ -88,3 +88,7 @@ fed ones (Some book) e = Some (kept_book ones e book)
 unfoldable pub book_after : ℕ → Option (List ℕ) → List Event → Option (List ℕ)
 book_after ones book [] = book
 book_after ones book (e ∷ es) = book_after ones (fed ones book e) es
+
+-- the book of a history, from its beginning on
+abbrev pub book_of : ℕ → List Event → Option (List ℕ)
+book_of ones es = book_after ones None es

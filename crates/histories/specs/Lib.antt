@@ -2,6 +2,10 @@ pub mod Events
 pub mod Book
 pub mod Alike
 pub mod Performing
+pub mod Handed
+pub mod Busy
 pub mod Texts
 pub mod Laws
+pub mod Told
+pub mod Both
 pub mod Recorded

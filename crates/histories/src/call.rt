@@ -8,7 +8,7 @@ pub enum Call {
     Open,
     Shut,
     Read { address: u16 },
-    Run { address: u16, count: u16 },
+    Run { address: u16, count: usize },
     Write { address: u16, value: u16 },
     Erase { address: u16 },
     Fill { value: u16 },

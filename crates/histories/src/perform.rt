@@ -1,17 +1,14 @@
 //! A list of calls, performed by a new driver.
 ghost use Rattle.std.specs.Prelude.{◌≡◌, ◌+◌, ◌≤◌, true, length, Ok, nat_le};
 ghost use Rattle.protocol.specs.Lists.{room};
-ghost use Rattle.protocol.specs.Parts.{ones_of};
-ghost use Rattle.chips.specs.Pins.{Pins};
 ghost use Rattle.chips.specs.Seen.{seen};
-ghost use Rattle.wire.specs.Places.{width_on};
 ghost use Rattle.driver.specs.Held.{held};
-ghost use Rattle.histories.specs.Events.{Event, events_of};
-ghost use Rattle.histories.specs.Laws.{Truthful, AnswersAlike, ListingAccounts};
 ghost use Rattle.histories.specs.Performing.{wanted_by, words_wanted, has_room, Performed, PerformsOn, PerformedOne};
 ghost use Rattle.histories.specs.Recorded.{BytesAccounted};
+ghost use Rattle.histories.specs.Told.{CountedTold, TruthfulTold, BelievedTold, BusyTold};
 
 use crate::call::Call;
+use crate::told::Told;
 use chips::chip::Chip;
 use driver::driver::Driver;
 use protocol::list::List;
@@ -33,30 +30,40 @@ fn words_fit(calls: &[Call], places: usize) -> bool
 }
 
 // Is there room for an answer to each call, and for the most words that they hand out?
-// Calls and lists, and below driver and words, stay arguments of their own: a struct of them would be made for one call and taken
-// apart in it.
-fn has_room(calls: &[Call], answers: &List<Result<(), Refusal>>, words: &List<u16>) -> bool
-    ensures { result ≡ has_room calls.now answers.now words.now }
+fn has_room(calls: &[Call], told: &Told) -> bool
+    ensures { result ≡ has_room calls.now told.now }
 {
-    calls.len() <= answers.left() && words_fit(calls, words.left())
+    calls.len() <= told.answers.left() && words_fit(calls, told.words.left())
 }
 
-// The most words of one run: a fixed buffer, cut to the count, since the libraries take no heap.
-const MOST: usize = 65535;
+// A read, with its word added to the list.
+#[tactic(auto, using(crate::proofs::Performs::reading))]
+fn read_into<C: Chip>(
+    driver: &mut Driver<C>,
+    address: u16,
+    words: &mut List<u16>,
+) -> Result<(), Refusal>
+    requires { words.old.count + 1 ≤ room words.old }
+    ensures { PerformedOne C.Chip.next (Call.Read address) (held C.Chip driver.old) (held C.Chip driver.new) words.old words.new result }
+{
+    let word = driver.read(address)?;
+    words.push(word, 0)
+}
 
-// A run that fills a buffer, with its words added to the list.
-#[tactic(auto, using(crate::proofs::Performs::running))]
+// A run that reads straight into free places of the list.
 fn run_into<C: Chip>(
     driver: &mut Driver<C>,
     address: u16,
-    buffer: &mut [u16],
+    count: usize,
     words: &mut List<u16>,
 ) -> Result<(), Refusal>
-    requires { words.old.count + length buffer.old ≤ room words.old }
-    ensures { PerformedOne C.Chip.next (Call.Run address (length buffer.old)) (held C.Chip driver.old) (held C.Chip driver.new) words.old words.new result }
+    requires { words.old.count + count ≤ room words.old }
+    ensures { PerformedOne C.Chip.next (Call.Run address count) (held C.Chip driver.old) (held C.Chip driver.new) words.old words.new result }
 {
-    driver.run(address, buffer)?;
-    words.extend(buffer, 0)
+    let end = words.count + count;
+    driver.run(address, &mut words.slice[words.count..end])?;
+    words.count = end;
+    Ok(())
 }
 
 // Any call, with its words added to the list.
@@ -74,12 +81,8 @@ fn perform_one<C: Chip>(
         Call::Settle => driver.settle(),
         Call::Open => driver.open(),
         Call::Shut => driver.shut(),
-        // a run of one word
-        Call::Read { address } => run_into(driver, address, &mut [0; 1], words),
-        Call::Run { address, count } => {
-            let mut buffer = [0; MOST];
-            run_into(driver, address, &mut buffer[0..count as usize], words)
-        }
+        Call::Read { address } => read_into(driver, address, words),
+        Call::Run { address, count } => run_into(driver, address, count, words),
         Call::Write { address, value } => driver.write(address, value),
         Call::Erase { address } => driver.erase(address),
         Call::Fill { value } => driver.fill(value),
@@ -90,52 +93,42 @@ fn perform_one<C: Chip>(
 fn perform_all<C: Chip>(
     driver: &mut Driver<C>,
     calls: &[Call],
-    answers: &mut List<Result<(), Refusal>>,
-    words: &mut List<u16>,
+    told: &mut Told,
 ) -> Result<(), Refusal>
-    requires { has_room calls.now answers.old words.old ≡ true }
+    requires { has_room calls.now told.old ≡ true }
     ensures done { result ≡ Ok tt }
-    ensures performed { Performed C.Chip.next calls.now (held C.Chip driver.old) (held C.Chip driver.new) answers.old answers.new words.old words.new }
+    ensures performed { Performed C.Chip.next calls.now (held C.Chip driver.old) (held C.Chip driver.new) told.old told.new }
 {
     for call in calls {
-        let answer = perform_one(driver, *call, words);
-        answers.push(answer, 0)?;
+        let answer = perform_one(driver, *call, &mut told.words);
+        told.answers.push(answer, 0)?;
     }
     Ok(())
 }
 
 // By a new driver, if there is room for all.
-fn perform_in_room<C: Chip>(
-    chip: &mut C,
-    calls: &[Call],
-    answers: &mut List<Result<(), Refusal>>,
-    words: &mut List<u16>,
-) -> Result<(), Refusal>
-    ensures { PerformsOn C.Chip calls.now chip.old chip.new answers.old answers.new words.old words.new result }
+fn perform_in_room<C: Chip>(chip: &mut C, calls: &[Call], told: &mut Told) -> Result<(), Refusal>
+    ensures { PerformsOn C.Chip calls.now chip.old chip.new told.old told.new result }
 {
-    if !has_room(calls, answers, words) {
+    if !has_room(calls, told) {
         return Err(Cause::NoRoom.into());
     }
     let mut driver = Driver::new(chip);
-    perform_all(&mut driver, calls, answers, words)
+    perform_all(&mut driver, calls, told)
 }
 
 // Performs the calls with a new driver on the chip: an answer for each call, and the words that they hand out, one after the other.
 // Without room for all of them nothing is done.
-#[tactic(auto, using(traces::proofs::Accounts::accounted, crate::proofs::Carried::truthful, crate::proofs::Recorded::recorded))]
-pub fn perform<C: Chip>(
-    chip: &mut C,
-    calls: &[Call],
-    answers: &mut List<Result<(), Refusal>>,
-    words: &mut List<u16>,
-) -> Result<(), Refusal>
-    ensures performs { PerformsOn C.Chip calls.now chip.old chip.new answers.old answers.new words.old words.new result }
-    ensures truthful { (d : Event) → Truthful (ones_of (width_on (C.Chip.meaning chip.old))) (events_of C.Chip.next calls.now (seen C.Chip.view C.Chip.meaning chip.old)) d }
-    ensures alike { (other : Pins) (d : Event) → AnswersAlike calls.now (events_of C.Chip.next calls.now (seen C.Chip.view C.Chip.meaning chip.old)) (C.Chip.meaning chip.old) other d }
-    ensures account { ListingAccounts }
+#[tactic(auto, using(crate::proofs::Recorded::recorded))]
+pub fn perform<C: Chip>(chip: &mut C, calls: &[Call], told: &mut Told) -> Result<(), Refusal>
+    ensures performs { PerformsOn C.Chip calls.now chip.old chip.new told.old told.new result }
+    ensures counted { result ≡ Ok tt → CountedTold C.Chip calls.now chip.old told.old told.new }
+    ensures truthful { TruthfulTold C.Chip calls.now chip.old told.old told.new }
+    ensures believed { BelievedTold C.Chip calls.now chip.old chip.new told.old told.new }
+    ensures busy { BusyTold C.Chip calls.now chip.old told.old told.new }
     ensures recorded { result ≡ Ok tt → BytesAccounted calls.now (C.Chip.meaning chip.old) (C.Chip.meaning chip.new) }
 {
     // facts promises that the chip fits, on which the laws rest
     let _ = chip.facts();
-    perform_in_room(chip, calls, answers, words)
+    perform_in_room(chip, calls, told)
 }

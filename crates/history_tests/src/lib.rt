@@ -4,15 +4,18 @@
 #[cfg(test)]
 mod tests {
     use chips::chip::Chip;
+    use chips::clock::ClockChip;
+    use chips::fall::FallChip;
+    use chips::model::Straps;
     use driver::driver::Driver;
     use frame_writer::write_frame;
     use histories::call::Call;
     use histories::perform::perform;
-    use models::model::{Model, Straps};
+    use histories::told::Told;
     use protocol::instruction::Instruction;
     use protocol::list::List;
     use protocol::refusal::{Cause, Refusal};
-    use protocol::settings::{Cycles, Edition};
+    use protocol::settings::Cycles;
     use std::process::Abort;
     use std::test::Fail;
 
@@ -49,8 +52,8 @@ mod tests {
     }
 
     // A 46 of the fall edition.
-    fn small<'a>(memory: &'a mut [u8], length: u16) -> Model<'a> {
-        Model::in_edition(memory, Edition::Fall, 46, cycles(length), Straps::HIGH)
+    fn small<'a>(memory: &'a mut [u8], length: u16) -> FallChip<'a> {
+        FallChip::new(memory, 46, cycles(length), Straps::HIGH)
     }
 
     fn refused(cause: Cause) -> Result<(), Refusal> {
@@ -94,33 +97,26 @@ mod tests {
     }
 
     // The answers to the calls, with the words that they hand out.
-    fn answers_of(
-        chip: &mut Model,
+    fn answers_of<C: Chip>(
+        chip: &mut C,
         calls: [Call; 14],
         words: &mut [u16],
     ) -> [Result<(), Refusal>; 14] {
         let mut room = [refused(Cause::FileForm); 14];
         {
-            let mut answers = List::new(&mut room);
-            let mut heard = List::new(words);
-            let _ = perform(chip, &calls, &mut answers, &mut heard);
+            let mut told = Told {
+                answers: List::new(&mut room),
+                words: List::new(words),
+            };
+            let _ = perform(chip, &calls, &mut told);
         }
         room
     }
 
-    // The table on a chip over this memory: all its answers, and these words.
-    fn check_history(
-        rt: &impl Abort,
-        memory: &mut [u8],
-        edition: Edition,
-        part: u8,
-        straps: Straps,
-        calls: [Call; 14],
-        words: [u16; 9],
-    ) {
+    // The table on a chip: all its answers, and these words.
+    fn check_history<C: Chip>(rt: &impl Abort, chip: &mut C, calls: [Call; 14], words: [u16; 9]) {
         let mut heard = [0; 9];
-        let mut chip = Model::in_edition(memory, edition, part, cycles(5), straps);
-        assert_eq!(rt; answers_of(&mut chip, calls, &mut heard), expected());
+        assert_eq!(rt; answers_of(chip, calls, &mut heard), expected());
         assert_eq!(rt; heard, words);
     }
 
@@ -137,15 +133,10 @@ mod tests {
         // cell 62 is bytes 124 and 125
         memory[124] = 3;
         let calls = table(62, 63, 0x1234, 0xa5a5);
-        check_history(
-            &rt,
-            &mut memory,
-            Edition::Fall,
-            46,
-            Straps::HIGH,
-            calls,
-            WORDS,
-        );
+        {
+            let mut chip = small(&mut memory, 5);
+            check_history(&rt, &mut chip, calls, WORDS);
+        }
         assert_eq!(rt; memory, [0xff; 128]);
     }
 
@@ -157,15 +148,10 @@ mod tests {
         // cell 1022 is bytes 2044 and 2045
         memory[2044] = 3;
         let calls = table(1022, 1023, 0x1234, 0xa5a5);
-        check_history(
-            &rt,
-            &mut memory,
-            Edition::Clock,
-            86,
-            Straps::HIGH,
-            calls,
-            WORDS,
-        );
+        {
+            let mut chip = ClockChip::new(&mut memory, 86, cycles(5), Straps::HIGH);
+            check_history(&rt, &mut chip, calls, WORDS);
+        }
         assert_eq!(rt; memory, [0xff; 2048]);
     }
 
@@ -177,7 +163,10 @@ mod tests {
         memory[2046] = 3;
         let calls = table(2046, 2047, 0x34, 0xa5);
         let words = [0x34, 3, 0x34, 1, 2, 0xff, 0xa5, 0xa5, 0xff];
-        check_history(&rt, &mut memory, Edition::Clock, 86, NARROW, calls, words);
+        {
+            let mut chip = ClockChip::new(&mut memory, 86, cycles(5), NARROW);
+            check_history(&rt, &mut chip, calls, words);
+        }
         assert_eq!(rt; memory, [0xff; 2048]);
     }
 
@@ -254,7 +243,7 @@ mod tests {
         let mut memory = [7; 2048];
         let mut words = [9; 2];
         {
-            let mut chip = Model::in_edition(&mut memory, Edition::Clock, 86, cycles(5), NARROW);
+            let mut chip = ClockChip::new(&mut memory, 86, cycles(5), NARROW);
             check_input(&rt, &mut chip, &mut words);
         }
         assert_eq!(rt; words, [9; 2]);
@@ -304,7 +293,7 @@ mod tests {
         let mut memory = [7; 2048];
         let mut words = [9; 2];
         {
-            let mut chip = Model::in_edition(&mut memory, Edition::Clock, 86, cycles(5), PROTECTED);
+            let mut chip = ClockChip::new(&mut memory, 86, cycles(5), PROTECTED);
             check_state(&rt, &mut chip, &mut words)?;
         }
         assert_eq!(rt; words, [9; 2]);
@@ -326,20 +315,17 @@ mod tests {
         Ok([driver.write(5, 0x1234), driver.settle(), driver.settle()])
     }
 
-    // On a 46 of the fall edition, or an 86 of the clock edition.
-    fn waits_of(edition: Edition, length: u16) -> Result<[Result<(), Refusal>; 3], Refusal> {
+    // On a 46 of the fall edition.
+    fn fall_waits(length: u16) -> Result<[Result<(), Refusal>; 3], Refusal> {
+        let mut memory = [0; 128];
+        let mut chip = small(&mut memory, length);
+        waits(&mut chip)
+    }
+
+    // On an 86 of the clock edition.
+    fn clock_waits(length: u16) -> Result<[Result<(), Refusal>; 3], Refusal> {
         let mut memory = [0; 2048];
-        let (part, size) = match edition {
-            Edition::Fall => (46, 128),
-            Edition::Clock => (86, 2048),
-        };
-        let mut chip = Model::in_edition(
-            &mut memory[..size],
-            edition,
-            part,
-            cycles(length),
-            Straps::HIGH,
-        );
+        let mut chip = ClockChip::new(&mut memory, 86, cycles(length), Straps::HIGH);
         waits(&mut chip)
     }
 
@@ -349,17 +335,17 @@ mod tests {
     fn cycles_are_waited_for(rt: HostRuntime) {
         let unfinished = refused(Cause::Unfinished);
         let late = [unfinished, DONE, DONE];
-        assert_eq!(rt; waits_of(Edition::Fall, 4096), Ok([DONE; 3]));
-        assert_eq!(rt; waits_of(Edition::Fall, 4097), Ok(late));
-        assert_eq!(rt; waits_of(Edition::Fall, 5000), Ok(late));
+        assert_eq!(rt; fall_waits(4096), Ok([DONE; 3]));
+        assert_eq!(rt; fall_waits(4097), Ok(late));
+        assert_eq!(rt; fall_waits(5000), Ok(late));
         // the second polling ends at 4097 + 4096
-        assert_eq!(rt; waits_of(Edition::Fall, 8193), Ok(late));
+        assert_eq!(rt; fall_waits(8193), Ok(late));
         assert_eq!(rt;
-            waits_of(Edition::Fall, 8194),
+            fall_waits(8194),
             Ok([unfinished, refused(Cause::Busy), DONE])
         );
-        assert_eq!(rt; waits_of(Edition::Clock, 4098), Ok([DONE; 3]));
-        assert_eq!(rt; waits_of(Edition::Clock, 4099), Ok(late));
+        assert_eq!(rt; clock_waits(4098), Ok([DONE; 3]));
+        assert_eq!(rt; clock_waits(4099), Ok(late));
     }
 
     fn check_busy<C: Chip>(rt: &impl Abort, chip: &mut C) -> Result<(), Fail> {
@@ -441,8 +427,8 @@ mod tests {
         assert_eq!(rt; status(1), Ok(([2, 2, 2], 0x8001)));
         assert_eq!(rt; status(2), Ok(([2, 0, 1], 0x8001)));
         assert_eq!(rt; status(3), Ok(([2, 0, 0], 0x8001)));
-        assert_eq!(rt; waits_of(Edition::Fall, 1), Ok([DONE; 3]));
-        assert_eq!(rt; waits_of(Edition::Clock, 1), Ok([DONE; 3]));
+        assert_eq!(rt; fall_waits(1), Ok([DONE; 3]));
+        assert_eq!(rt; clock_waits(1), Ok([DONE; 3]));
     }
 
     // What a new driver reads in cell 5 of an open chip that has been sent these bits and has CS still high.
@@ -482,14 +468,16 @@ mod tests {
         {
             let mut chip = small(&mut memory, 5);
             let mut room = [DONE; 14];
-            let mut answers = List::new(&mut room);
-            let mut heard = List::new(&mut words);
+            let mut told = Told {
+                answers: List::new(&mut room),
+                words: List::new(&mut words),
+            };
             let calls = table(62, 63, 0x1234, 0xa5a5);
             assert_eq!(rt;
-                perform(&mut chip, &calls, &mut answers, &mut heard),
+                perform(&mut chip, &calls, &mut told),
                 refused(Cause::NoRoom)
             );
-            assert_eq!(rt; (answers.len(), heard.len()), (0, 0));
+            assert_eq!(rt; (told.answers.len(), told.words.len()), (0, 0));
         }
         assert_eq!(rt; words, [9; 8]);
         assert_eq!(rt; memory, [7; 128]);

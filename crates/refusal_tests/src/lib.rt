@@ -4,11 +4,13 @@
 #[cfg(test)]
 mod tests {
     use chips::chip::Chip;
-    use models::model::{Model, check};
+    use chips::clock::ClockChip;
+    use chips::fall::FallChip;
+    use chips::model::check;
     use protocol::list::List;
     use protocol::refusal::{Cause, Refusal};
     use protocol::sample::Straps;
-    use protocol::settings::{Cycles, Edition, Settings};
+    use protocol::settings::{Cycles, Settings};
     use traces::entry::Entry;
     use traces::reader::read_trace;
     use traces::replay::replay;
@@ -38,8 +40,8 @@ mod tests {
     }
 
     // A 46 of the fall edition.
-    fn small<'a>(memory: &'a mut [u8], straps: Straps) -> Model<'a> {
-        Model::in_edition(memory, Edition::Fall, 46, CYCLES, straps)
+    fn small<'a>(memory: &'a mut [u8], straps: Straps) -> FallChip<'a> {
+        FallChip::new(memory, 46, CYCLES, straps)
     }
 
     #[test]
@@ -82,7 +84,7 @@ mod tests {
             let fall = small(&mut memory, low);
             assert_eq!(rt; fall.facts(), (46, 1, 1));
         }
-        let clock = Model::in_edition(&mut large, Edition::Clock, 76, CYCLES, low);
+        let clock = ClockChip::new(&mut large, 76, CYCLES, low);
         assert_eq!(rt; clock.facts(), (76, 0, 0));
     }
 

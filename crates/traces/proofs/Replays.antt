@@ -12,8 +12,8 @@ use Rattle.protocol.proofs.Passed.{passed_over, passed}
 use Rattle.chips.specs.Machine.{fresh_machine, run_on, outs}
 use Rattle.chips.specs.Pins.{Pins}
 use Rattle.protocol.specs.declared.sample.Straps.{Straps}
-use Rattle.models.specs.Powered.{sized, fitted, live_pins, powered_by, powered}
-use Rattle.models.specs.Traced.{trace_answer, trace_pins, trace_outs}
+use Rattle.chips.specs.Powered.{sized, fitted, live_pins, powered_by, powered}
+use Rattle.chips.specs.Traced.{trace_answer, trace_pins, trace_outs}
 use Rattle.protocol.specs.declared.list.List.{List as Held}
 use Rattle.traces.specs.declared.entry.Entry.{Entry}
 use Rattle.traces.specs.Reading.{readable, Listed, WasRead}

@@ -8,7 +8,7 @@ use Rattle.protocol.specs.declared.settings.Setup.{Setup}
 use Rattle.protocol.specs.Refusals.{refusal}
 use Rattle.protocol.specs.Samples.{high_at}
 use Rattle.chips.specs.Machine.{fresh_machine, run_on, outs}
-use Rattle.models.specs.Powered.{fitted}
+use Rattle.chips.specs.Powered.{fitted}
 use Rattle.traces.specs.declared.entry.Entry.{Entry}
 use Rattle.traces.specs.Account.{applied_all, new_in}
 

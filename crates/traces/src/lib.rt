@@ -4,4 +4,4 @@
 pub mod entry;
 pub mod reader;
 pub mod replay;
-mod start_bit;
+pub mod start_bit;

@@ -5,7 +5,7 @@ ghost use Rattle.traces.specs.Replaying.{replayable, bytes_after, levels_after, 
 
 use crate::entry::Entry;
 use crate::reader::read_trace;
-use models::model::{Model, check, check_trace};
+use chips::model::{Model, check, check_trace};
 use protocol::list::List;
 use protocol::refusal::Refusal;
 use protocol::sample::Straps;

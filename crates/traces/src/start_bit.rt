@@ -8,7 +8,7 @@ use protocol::instruction::Kind;
 use protocol::parts::Width;
 
 #[derive(Clone, Copy)]
-pub(crate) struct StartBit {
+pub struct StartBit {
     pub(crate) width: Width,
     pub(crate) place: usize,
 }

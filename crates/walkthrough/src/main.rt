@@ -6,15 +6,16 @@ use crate::recorder::perform_recorded;
 use crate::show::print_calls;
 use crate::task::TASK;
 use anyhow::anyhow;
-use histories::perform::perform;
+use chips::clock::ClockChip;
+use chips::fall::FallChip;
+use histories::both::{Trace, perform_on_both};
+use histories::told::Told;
 use listing::lines::text_of;
-use models::model::Model;
 use protocol::list::List;
 use protocol::refusal::Refusal;
 use protocol::sample::Straps;
 use protocol::settings::{Cycles, Edition, Settings};
 use traces::entry::Entry;
-use traces::reader::read_trace;
 
 mod recorder;
 mod show;
@@ -54,50 +55,69 @@ fn print_board(rt: &HostRuntime) -> anyhow::Result<()> {
     Ok(())
 }
 
-// The chip of the task, of either edition.
-fn chip<'a>(memory: &'a mut [u8], edition: Edition) -> Model<'a> {
-    Model::in_edition(memory, edition, PART, CYCLES, Straps::HIGH)
-}
-
 // The task on a chip of the fall edition, with its samples on the tape.
-// Answers and words stay two lists: a struct of both would be made here alone and taken apart for `perform`.
-fn perform_task(
-    rt: &HostRuntime,
-    tape: &mut List<u8>,
-    answers: &mut List<Result<(), Refusal>>,
-    words: &mut List<u16>,
-) -> anyhow::Result<()> {
+fn perform_task(rt: &HostRuntime, tape: &mut List<u8>, told: &mut Told) -> anyhow::Result<()> {
     let mut memory = vec![in rt.alloc(); 255u8; BYTES]?;
-    let mut model = chip(&mut memory, Edition::Fall);
-    perform_recorded(&mut model, tape, &TASK, answers, words)?;
+    let mut chip = FallChip::new(&mut memory, PART, CYCLES, Straps::HIGH);
+    perform_recorded(&mut chip, tape, &TASK, told)?;
     Ok(())
 }
 
-// The task on a chip of the clock edition: does it answer the same?
-fn compare(rt: &HostRuntime, answers: &[Result<(), Refusal>], words: &[u16]) -> anyhow::Result<()> {
+// The task on both editions, with the tape replayed: does the clock edition answer the same?
+fn compare(
+    rt: &HostRuntime,
+    told: &Told,
+    trace: &mut Trace,
+) -> anyhow::Result<Result<(), Refusal>> {
     let mut memory = vec![in rt.alloc(); 255u8; BYTES]?;
-    let mut model = chip(&mut memory, Edition::Clock);
+    let mut other_memory = vec![in rt.alloc(); 255u8; BYTES]?;
+    let mut fall = FallChip::new(&mut memory, PART, CYCLES, Straps::HIGH);
+    let mut clock = ClockChip::new(&mut other_memory, PART, CYCLES, Straps::HIGH);
+    let mut answers = [Ok(()); ANSWERS];
+    let mut words = [0; WORDS];
+    let mut again = Told {
+        answers: List::new(&mut answers),
+        words: List::new(&mut words),
+    };
     let mut other_answers = [Ok(()); ANSWERS];
     let mut other_words = [0; WORDS];
-    let mut other_answers = List::new(&mut other_answers);
-    let mut other_words = List::new(&mut other_words);
-    perform(&mut model, &TASK, &mut other_answers, &mut other_words)?;
-    if answers == other_answers.items() && words == other_words.items() {
+    let mut other = Told {
+        answers: List::new(&mut other_answers),
+        words: List::new(&mut other_words),
+    };
+    let answer = perform_on_both(&mut fall, &mut clock, &TASK, &mut again, &mut other, trace);
+    if told.answers.items() == other.answers.items() && told.words.items() == other.words.items() {
         println!(rt; "the clock edition gave the same answers and words")?;
     } else {
         println!(rt; "the clock edition gave other answers or words")?;
     }
+    Ok(answer)
+}
+
+// The comparison, and the listing of the tape.
+fn print_replay(rt: &HostRuntime, told: &Told, trace: &mut Trace) -> anyhow::Result<()> {
+    let answer = compare(rt, told, trace)?;
+    let count = trace.samples.len();
+    println!(rt; "{count} samples were recorded, all that were put")?;
+    let text = text_of(rt.alloc(), trace.entries.items(), answer)?;
+    print!(rt; "{text}")?;
     Ok(())
 }
 
-// The listing of the tape.
-fn print_listing(rt: &HostRuntime, samples: &[u8]) -> anyhow::Result<()> {
+// The task on both editions, and the tape on a chip of its own.
+fn replay_tape(rt: &HostRuntime, told: &Told, samples: &[u8]) -> anyhow::Result<()> {
+    let mut memory = vec![in rt.alloc(); 255u8; BYTES]?;
+    let mut levels = vec![in rt.alloc(); 0u8; samples.len()]?;
     let mut entries = [Entry::NONE; ENTRIES];
-    let mut entries = List::new(&mut entries);
-    let answer = read_trace(SETTINGS, samples, &mut entries);
-    let text = text_of(rt.alloc(), entries.items(), answer)?;
-    print!(rt; "{text}")?;
-    Ok(())
+    let entries = List::new(&mut entries);
+    let mut trace = Trace {
+        settings: SETTINGS,
+        samples,
+        memory: &mut memory,
+        levels: &mut levels,
+        entries,
+    };
+    print_replay(rt, told, &mut trace)
 }
 
 fn run(rt: &HostRuntime) -> anyhow::Result<()> {
@@ -105,18 +125,17 @@ fn run(rt: &HostRuntime) -> anyhow::Result<()> {
     let mut tape = List::new(&mut tape);
     let mut answers = [Ok(()); ANSWERS];
     let mut words = [0; WORDS];
-    let mut answers = List::new(&mut answers);
-    let mut words = List::new(&mut words);
+    let mut told = Told {
+        answers: List::new(&mut answers),
+        words: List::new(&mut words),
+    };
     print_board(rt)?;
-    perform_task(rt, &mut tape, &mut answers, &mut words)?;
-    print_calls(rt, &TASK, answers.items(), words.items())?;
-    compare(rt, answers.items(), words.items())?;
-    let count = tape.len();
+    perform_task(rt, &mut tape, &mut told)?;
+    print_calls(rt, &TASK, told.answers.items(), told.words.items())?;
     if tape.left() == 0 {
         return Err(anyhow!("the tape is full"));
     }
-    println!(rt; "{count} samples were recorded, all that were put")?;
-    print_listing(rt, tape.items())
+    replay_tape(rt, &told, tape.items())
 }
 
 fn main(rt: HostRuntime) -> anyhow::Result<()> {

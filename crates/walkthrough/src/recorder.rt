@@ -2,6 +2,7 @@
 use chips::chip::Chip;
 use histories::call::Call;
 use histories::perform::perform;
+use histories::told::Told;
 use protocol::list::List;
 use protocol::refusal::Refusal;
 use protocol::sample::Straps;
@@ -44,9 +45,8 @@ pub fn perform_recorded<C: Chip + Drop>(
     chip: C,
     tape: &mut List<u8>,
     calls: &[Call],
-    answers: &mut List<Result<(), Refusal>>,
-    words: &mut List<u16>,
+    told: &mut Told,
 ) -> Result<(), Refusal> {
     let mut recorder = Recorder { chip, tape };
-    perform(&mut recorder, calls, answers, words)
+    perform(&mut recorder, calls, told)
 }

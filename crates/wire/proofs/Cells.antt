@@ -13,7 +13,7 @@ use Rattle.chips.specs.Machine.{cell_value, set_cell, fill_cells}
 use Rattle.chips.specs.Pins.{Pins}
 use Rattle.wire.specs.Hearing.{cells_from}
 use Rattle.wire.specs.Laws.{CellsFromLength, CellsFromAt, SetCellSame, SetCellOther}
-use Rattle.wire.specs.Laws.{FillCellsInside, FillCellsOutside, CellsKeepLength, CellsKeepBytes}
+use Rattle.wire.specs.Laws.{FillCellsInside, CellsKeepLength, CellsKeepBytes}
 
 pub some_bits : (width : Width) → 0 < bits_of width
 some_bits Eight = lit< tt
@@ -96,11 +96,6 @@ fill_cells_inside width (suc n) v j bytes within inside fits =
           set_cell_other width n v j filled other
           ∙ fill_cells_inside width n v j bytes (omega (arith, suc-mul n (bytes_in width))) (omega (arith, other)) fits
     ]
-
-pub fill_cells_outside : FillCellsOutside
-fill_cells_outside width zero v j bytes h = refl
-fill_cells_outside width (suc n) v j bytes h =
-    set_cell_other width n v j (fill_cells width n v bytes) (λ e. omega arith) ∙ fill_cells_outside width n v j bytes (omega arith)
 
 -- the words of a READ, one by one
 pub cells_from-length : CellsFromLength

@@ -1,22 +1,25 @@
 -- What the zero bits of a READ bring out: its cells, one after another.
-use Rattle.std.proofs.Common.{◌≡◌, ℕ, zero, suc, ◌+◌, ◌-◌, ◌*◌, ◌/◌, ◌%◌, ◌^◌, ◌<◌, ◌≤◌, Bool, true, false, cond, ltb, ◌∷◌, sym, refl, ap, ◌∙◌, suc-add, pow-suc, zero-add, zero-mul, div-one, add-one, arith, lit<}
+use Rattle.std.proofs.Common.{◌≡◌, ℕ, zero, suc, ◌+◌, ◌-◌, ◌*◌, ◌/◌, ◌%◌, ◌^◌, ◌<◌, ◌≤◌, Bool, true, false, cond, ltb, List, [], ◌∷◌, sym, refl, ap, ◌∙◌, suc-add, pow-suc, zero-add, zero-mul, div-one, add-one, arith, lit<}
 use native.Mathlib.Nat.{div-eq_of_lt, zero-div}
 use Rattle.std.proofs.lemmas.Nat.{shr-shr}
 use Rattle.std.proofs.lemmas.Bool.Decides.{nat_tests}
 use Rattle.protocol.specs.declared.parts.Width.{Width}
 use Rattle.protocol.specs.Parts.{bits_of, cells_of}
+use Rattle.chips.specs.declared.state.Decision.TheVariants.{Nothing, Data}
 use Rattle.chips.specs.declared.state.Phase.{Phase}
 use Rattle.chips.specs.declared.state.Phase.TheVariants.{Reading}
 use Rattle.chips.specs.Control.{turn}
 use Rattle.chips.specs.Fitting.{are_bytes}
 use Rattle.chips.specs.Machine.{cell_value, data_bit}
-use Rattle.chips.specs.Pins.{Pins, put_on, do_of}
-use Rattle.wire.specs.Frames.{bit_at, ending, clocks}
+use Rattle.chips.specs.Pins.{Pins, put, put_on, do_of}
+use Rattle.wire.specs.Frames.{selected, bit_at, ending, clocks}
 use Rattle.wire.specs.Runs.{run}
 use Rattle.wire.specs.Hearing.{zero_bit, level_of, heard, after_bits, words_heard, cells_from}
-use Rattle.wire.specs.Places.{width_on, placed, resting}
-use Rattle.wire.specs.Laws.{HeardIsRun, AfterWords, WordsHeardMore, ReadAnswersCells, ReadRests}
+use Rattle.wire.specs.Places.{width_on, placed, resting, reading}
+use Rattle.wire.specs.Deciding.{Note, notes}
+use Rattle.wire.specs.Laws.{HeardIsRun, WordsHeardMore, ReadAnswersCells, ReadRests}
 use Rattle.wire.proofs.Cells.{some_bits, cell_below}
+use Rattle.wire.proofs.Going.{act, goes, go}
 
 -- a bit of 0 is 0
 pub bit_at_zero : (n : ℕ) → bit_at 0 n ≡ false
@@ -32,9 +35,6 @@ pub after_add : (p : Pins) (m n : ℕ) → after_bits (m + n) p ≡ after_bits n
 unfolding after_bits
 after_add p zero n = ap (λ k. after_bits k p) (zero-add n)
 after_add p (suc m) n = ap (λ k. after_bits k p) (suc-add m n) ∙ after_add (zero_bit p) m n
-
-pub after_words : AfterWords
-after_words p bits n = let e : (n + 1) * bits ≡ n * bits + bits = omega arith in ap (λ k. after_bits k p) e ∙ after_add p (n * bits) bits
 
 pub words_heard-more : WordsHeardMore
 unfolding words_heard after_bits
@@ -81,6 +81,11 @@ module _ (p : Pins) (live : p.blank ≡ false) where
   at phase out =
       placed p (record { enabled = p.machine.state.enabled; left = 0; status = false; cs = true; sk = true; phase = phase }) p.machine.bytes out
 
+  -- the same, with SK low
+  abbrev low : Phase → ℕ → Pins
+  low phase out =
+      placed p (record { enabled = p.machine.state.enabled; left = 0; status = false; cs = true; sk = false; phase = phase }) p.machine.bytes out
+
   module _ (width : Width) where
     abbrev cell_next : ℕ → ℕ → ℕ
     cell_next cell next = cond (ltb (next + 1) (bits_of width)) cell ((cell + 1) % cells_of p.machine.setup.part width)
@@ -101,11 +106,28 @@ module _ (p : Pins) (live : p.blank ≡ false) where
     unfolding put_on turn
     bit_on cell next out = simp (live, one_of)
 
-    -- the frame ends after any number of bits
-    pub bits_end : (n cell next out : ℕ) → run (after_bits n (at (Reading width cell next) out)) ending ≡ resting p 0
-    unfolding run after_bits put_on turn
-    bits_end zero cell next out = simp live
-    bits_end (suc n) cell next out = ap (λ q. run (after_bits n q) ending) (bit_on cell next out) ∙ bits_end n _ _ _
+    -- its two samples: only the second decides, and no more than that a bit goes out
+    bit_low : (cell next out : ℕ) → act (at (Reading width cell next) out) selected ≡ (low (Reading width cell next) out, Nothing)
+    unfolding put_on turn
+    bit_low cell next out = simp live
+
+    bit_high : (cell next out : ℕ) →
+        act (low (Reading width cell next) out) (put true true false)
+        ≡ (at (Reading width (cell_next cell next) (bit_next next)) (data_bit width (word cell) next), Data width cell next)
+    unfolding put_on turn
+    bit_high cell next out = simp (live, one_of)
+
+    -- the frame ends after any number of bits, and nothing is noted
+    reading_ends : (cell next out place : ℕ) → goes place (at (Reading width cell next) out) ending ≡ (resting p 0, [])
+    unfolding run notes put_on turn
+    reading_ends cell next out place = simp live
+
+    pub zeros_end : (n cell next out place : ℕ) → goes place (at (Reading width cell next) out) (clocks n 0 ending) ≡ (resting p 0, [])
+    unfolding clocks
+    zeros_end zero cell next out place = reading_ends cell next out place
+    zeros_end (suc n) cell next out place =
+        rw (bit_at_zero n)
+        (go place _ _ _ _ (bit_low cell next out) ∙ go (suc place) _ _ _ _ (bit_high cell next out) ∙ zeros_end n _ _ _ (suc (suc place)))
 
     -- one bit of a cell, with j to follow
     cell_bit : (j cell out : ℕ) → j < bits_of width →
@@ -155,4 +177,5 @@ pub read_answers_cells : ReadAnswersCells
 read_answers_cells p address n ready fits = words_are_cells p ready.rest.live (width_on p) fits.bytes n _ 0
 
 pub read_rests : ReadRests
-read_rests p address n ready = bits_end p ready.rest.live (width_on p) n _ 0 0
+read_rests p address n ready =
+    sym (heard_is_run (reading p address) n ending) ∙ ap (λ (x : Pins × List Note). x.0) (zeros_end p ready.rest.live (width_on p) n _ 0 0 0)

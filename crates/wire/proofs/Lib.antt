@@ -1,6 +1,7 @@
 pub mod Bits
 pub mod Shifting
 pub mod Coded
+pub mod Going
 pub mod Taking
 pub mod Carrying
 pub mod Resting
@@ -8,7 +9,9 @@ pub mod Polls
 pub mod Keeping
 pub mod Hears
 pub mod Cells
+pub mod Decided
 pub mod Whole
 pub mod Tells
 pub mod Clocking
 pub mod Lengths
+pub mod Held

@@ -7,7 +7,7 @@ use Rattle.wire.specs.Frames.{bit_at, clocks, opening}
 use Rattle.wire.specs.Runs.{run}
 use Rattle.wire.specs.Sent.{told}
 
-put-setup : (p : Pins) (s : Put) → (put_on p s).machine.setup ≡ p.machine.setup
+pub put-setup : (p : Pins) (s : Put) → (put_on p s).machine.setup ≡ p.machine.setup
 unfolding put_on
 put-setup p s = elim p.blank as (λ b. (cond b p.machine (step p.machine (sample_of p s))).setup ≡ p.machine.setup) [ true ↦ refl | false ↦ refl ]
 

@@ -50,25 +50,9 @@ ReadAnswersCells = (p : Pins) (address n : ℕ) → Ready p → Fits p →
 abbrev pub ReadRests : Type 0
 ReadRests = (p : Pins) (address n : ℕ) → Ready p → run (after_bits n (reading p address)) ending ≡ resting p 0
 
--- Samples in a row do what the first of them do and then the others.
-abbrev pub RunAppends : Type 0
-RunAppends = (p : Pins) (xs ys : List Put) → run p (xs ++ ys) ≡ run (run p xs) ys
-
--- No samples make a blank of a chip, or a chip of a blank.
-abbrev pub RunKeepsBlank : Type 0
-RunKeepsBlank = (p : Pins) (xs : List Put) → (run p xs).blank ≡ p.blank
-
--- Samples keep a chip fitting.
-abbrev pub RunKeepsFits : Type 0
-RunKeepsFits = (p : Pins) (xs : List Put) → p.blank ≡ false → Fits p → Fits (run p xs)
-
 -- Zero bits that are heard are zero bits that are sent.
 abbrev pub HeardIsRun : Type 0
 HeardIsRun = (p : Pins) (n : ℕ) (after : List Put) → run p (clocks n 0 after) ≡ run (after_bits n p) after
-
--- The bits of one word more are the bits of the words before it and then its own.
-abbrev pub AfterWords : Type 0
-AfterWords = (p : Pins) (bits n : ℕ) → after_bits ((n + 1) * bits) p ≡ after_bits bits (after_bits (n * bits) p)
 
 -- One word more is heard after the bits of the words before it.
 abbrev pub WordsHeardMore : Type 0
@@ -97,10 +81,6 @@ abbrev pub FillCellsInside : Type 0
 FillCellsInside = (width : Width) (n v j : ℕ) (bytes : List ℕ) → n * bytes_in width ≤ length bytes → j < n → v ≤ ones_of width →
     cell_value width (fill_cells width n v bytes) j ≡ v
 
--- The others hold what they held.
-abbrev pub FillCellsOutside : Type 0
-FillCellsOutside = (width : Width) (n v j : ℕ) (bytes : List ℕ) → n ≤ j → cell_value width (fill_cells width n v bytes) j ≡ cell_value width bytes j
-
 -- Setting or filling cells keeps the number of bytes.
 abbrev pub CellsKeepLength : Type 0
 CellsKeepLength = (width : Width) (k v : ℕ) (bytes : List ℕ) →
@@ -110,3 +90,23 @@ CellsKeepLength = (width : Width) (k v : ℕ) (bytes : List ℕ) →
 abbrev pub CellsKeepBytes : Type 0
 CellsKeepBytes = (width : Width) (k v : ℕ) (bytes : List ℕ) → v ≤ ones_of width → are_bytes bytes ≡ true →
     (are_bytes (set_cell width k v bytes) ≡ true) × (are_bytes (fill_cells width k v bytes) ≡ true)
+
+-- All of them together.
+pub record Laws : Type 0 where
+  pub poll_ready_iff : PollReadyIff
+  pub poll_rests : PollRests
+  pub idle_rests : IdleRests
+  pub put_keeps_fits : PutKeepsFits
+  pub frame_carries_out : FrameCarriesOut
+  pub read_opens_cell : ReadOpensCell
+  pub read_answers_cells : ReadAnswersCells
+  pub read_rests : ReadRests
+  pub heard_is_run : HeardIsRun
+  pub words_heard_more : WordsHeardMore
+  pub cells_from_length : CellsFromLength
+  pub cells_from_at : CellsFromAt
+  pub set_cell_same : SetCellSame
+  pub set_cell_other : SetCellOther
+  pub fill_cells_inside : FillCellsInside
+  pub cells_keep_length : CellsKeepLength
+  pub cells_keep_bytes : CellsKeepBytes

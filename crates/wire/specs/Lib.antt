@@ -6,3 +6,4 @@ pub mod Polling
 pub mod Hearing
 pub mod Places
 pub mod Laws
+pub mod Deciding

@@ -1,14 +1,15 @@
 //! One sample after the other. A step is inlined where it is called, so that a loop over samples keeps the state in registers.
 ghost use Rattle.std.specs.Prelude.{◌≡◌, ◌^◌, ◌<◌, ◌≤◌, true};
-ghost use Rattle.protocol.specs.Parts.{cells_of, bits_of};
-ghost use Rattle.chips.specs.Control.{obeyed, ending, ended, deselected, is_clock, is_quiet, read_on, taken, appended, clocked, turned, turn};
+ghost use Rattle.protocol.specs.Instructions.{length_of, kind_at};
+ghost use Rattle.chips.specs.Control.{obeyed, ending, deselected, is_quiet, taken, appended, turned, turn};
 ghost use Rattle.chips.specs.declared.state.Decision.TheVariants.{Nothing};
-ghost use Rattle.chips.specs.Fits.{PhaseFits, DecisionFits};
+ghost use Rattle.chips.specs.declared.state.Phase.TheVariants.{Taking};
+ghost use Rattle.chips.specs.Fits.{bits_below, DecisionFits};
 ghost use Rattle.chips.specs.Turning.{Decides, Turns};
 
 use crate::control::Control;
 use crate::incoming::{Incoming, Permission};
-use crate::state::{Decision, Phase};
+use crate::state::{Decision, Phase, State};
 use protocol::instruction::Kind;
 use protocol::parts::Width;
 use protocol::sample::Sample;
@@ -63,25 +64,24 @@ impl Control {
         }
     }
 
-    // CS has fallen: what that decides.
+    // CS has fallen while an instruction came in.
     #[inline(always)]
-    fn ending(&self, pe: bool) -> Decision
-        ensures { Decides self.now.setup.part result (ending self.now.setup self.now.state.enabled pe self.now.state.phase) }
+    fn end(&mut self, pe: bool, incoming: Incoming) -> Decision
+        requires { incoming.setup ≡ self.old.setup }
+        ensures { Turns self.old self.new result (deselected self.old.setup (ending self.old.setup self.old.state.enabled pe (Taking incoming.width incoming.count incoming.bits)) self.old.state) }
     {
-        match self.state.phase {
-            Phase::Taking { width, count, bits } => {
-                self.incoming(width, count, bits)
-                    .ending(self.permission(pe))
-            }
-            Phase::Spoiled => Decision::WrongCount,
-            _ => Decision::Nothing,
-        }
+        let decision = incoming.ending(self.permission(pe));
+        self.obey(decision);
+        self.state.rest();
+        decision
     }
 
     // An instruction has got one more bit.
+    #[tactic(auto, using(crate::proofs::Lengths::still_short))]
     #[inline(always)]
     fn take(&mut self, pe: bool, incoming: Incoming) -> Decision
-        requires { incoming.setup ≡ self.old.setup }
+        requires setup { incoming.setup ≡ self.old.setup }
+        requires most { incoming.count ≤ length_of self.old.setup.part incoming.width (kind_at incoming.count incoming.bits) }
         ensures { Turns self.old self.new result (taken self.old.setup pe incoming.width incoming.count incoming.bits self.old.state) }
     {
         let width = incoming.width;
@@ -105,10 +105,11 @@ impl Control {
     }
 
     // A clock while an instruction comes in.
-    #[tactic(auto, using(crate::proofs::Midways::midway, crate::proofs::Lengths::midway_short), unfolding(crate::specs::Control::appended))]
+    #[tactic(auto, using(crate::proofs::Lengths::midway_short))]
     #[inline(always)]
     fn append(&mut self, s: Sample, incoming: Incoming) -> Decision
-        requires { incoming.setup ≡ self.old.setup }
+        requires setup { incoming.setup ≡ self.old.setup }
+        requires short { incoming.count < bits_below self.old.setup incoming.width incoming.count incoming.bits }
         ensures { Turns self.old self.new result (appended self.old.setup s incoming.width incoming.count incoming.bits self.old.state) }
     {
         if incoming.is_midway() {
@@ -122,98 +123,69 @@ impl Control {
         }
     }
 
-    // The phase after a clock in reading.
+    // Rules 2 to 4, in this order: each arm names the phase, CS and SK as they were and are, and DI.
+    #[tactic(auto, using(crate::proofs::Lengths::start_short))]
     #[inline(always)]
-    fn read_on(&self, width: Width, cell: u16, next: u8) -> Phase
-        requires { (cell < cells_of self.now.setup.part width) × (next < bits_of width) }
-        ensures is { result ≡ read_on self.now.setup.part width cell next }
-        ensures fits { PhaseFits self.now.setup.part result }
+    fn decide(&mut self, s: Sample) -> Decision
+        ensures { Turns self.old self.new result (turned self.old.setup s self.old.state) }
     {
-        if next + 1 < width.bits() {
-            Phase::Reading {
-                width,
-                cell,
-                next: next + 1,
+        let part = self.setup.part;
+        let State { cs, sk, left, .. } = self.state;
+        let busy = left != 0;
+        match (&mut self.state.phase, (cs, s.cs), (sk, s.sk), s.di) {
+            // Rule 2. CS falls while an instruction comes in.
+            (Phase::Taking { width, count, bits }, (true, false), _, _) => {
+                let (width, count, bits) = (*width, *count, *bits);
+                self.end(s.pe, self.incoming(width, count, bits))
             }
-        } else {
-            let cells = self.setup.part.organised(width).cells();
-            Phase::Reading {
-                width,
-                cell: (cell + 1) % cells,
-                next: 0,
+            (Phase::Spoiled, (true, false), _, _) => {
+                self.state.rest();
+                Decision::WrongCount
             }
-        }
-    }
-
-    // Is a sample a clock that is heard?
-    #[inline(always)]
-    fn hears(&self, s: Sample) -> bool
-        ensures { result ≡ is_clock s self.now.state }
-    {
-        s.cs && self.state.cs && s.sk && !self.state.sk && self.state.left == 0
-    }
-
-    // CS is low.
-    #[inline(always)]
-    fn deselect(&mut self, s: Sample) -> Decision
-        ensures { Turns self.old self.new result (deselected self.old.setup (ended self.old.setup s self.old.state) self.old.state) }
-    {
-        let decision = if self.state.cs {
-            self.ending(s.pe)
-        } else {
-            Decision::Nothing
-        };
-        self.obey(decision);
-        self.state.rest();
-        decision
-    }
-
-    // A clock that is heard.
-    #[inline(always)]
-    fn clock(&mut self, s: Sample) -> Decision
-        ensures { Turns self.old self.new result (clocked self.old.setup s self.old.state.phase self.old.state) }
-    {
-        match self.state.phase {
-            Phase::Waiting if s.di => {
-                let width = self.setup.part.width(s.org);
-                self.state.phase = Phase::Taking {
+            // CS is low.
+            (_, (_, false), _, _) => {
+                self.state.rest();
+                Decision::Nothing
+            }
+            // Rule 3. CS rises while a cycle is under way.
+            (phase, (false, true), _, _) if busy => {
+                *phase = Phase::Over;
+                self.state.status = true;
+                Decision::Nothing
+            }
+            // Rule 4. A clock, which a cycle under way makes unheard.
+            (phase @ Phase::Waiting, (true, true), (false, true), true) if !busy => {
+                let width = part.width(s.org);
+                *phase = Phase::Taking {
                     width,
                     count: 0,
                     bits: 0,
                 };
                 Decision::Start { width }
             }
-            Phase::Taking { width, count, bits } => self.append(
-                s,
-                self.incoming(width, count, bits),
-            ),
-            Phase::Reading { width, cell, next } => {
-                self.state.phase = self.read_on(width, cell, next);
-                Decision::Data { width, cell, next }
+            (Phase::Taking { width, count, bits }, (true, true), (false, true), _) if !busy => {
+                let (width, count, bits) = (*width, *count, *bits);
+                self.append(s, self.incoming(width, count, bits))
             }
-            Phase::Over if s.di => {
+            (Phase::Reading { width, cell, next }, (true, true), (false, true), _) if !busy => {
+                let data = Decision::Data {
+                    width: *width,
+                    cell: *cell,
+                    next: *next,
+                };
+                *next += 1;
+                if *next == width.bits() {
+                    let cells = part.organised(*width).cells();
+                    *next = 0;
+                    *cell = (*cell + 1) % cells;
+                }
+                data
+            }
+            (Phase::Over, (true, true), (false, true), true) if !busy => {
                 self.state.status = false;
                 Decision::Nothing
             }
             _ => Decision::Nothing,
-        }
-    }
-
-    // Rules 2 to 4, in this order.
-    #[inline(always)]
-    fn decide(&mut self, s: Sample) -> Decision
-        ensures { Turns self.old self.new result (turned self.old.setup s self.old.state) }
-    {
-        if !s.cs {
-            self.deselect(s)
-        } else if !self.state.cs && self.state.left > 0 {
-            self.state.status = true;
-            self.state.phase = Phase::Over;
-            Decision::Nothing
-        } else if self.hears(s) {
-            self.clock(s)
-        } else {
-            Decision::Nothing
         }
     }
 

@@ -19,11 +19,7 @@ impl<C: Chip> Driver<C> {
     fn poll(&mut self, cause: Cause) -> Result<(), Refusal>
         ensures { outcome result (held C.Chip self.new) ≡ polled C.Chip.next cause (held C.Chip self.old) }
     {
-        if signals::poll(&mut self.chip) {
-            Ok(())
-        } else {
-            Err(cause.into())
-        }
+        signals::poll(&mut self.chip, cause)
     }
 
     // Brings a chip in any state to rest, shut for writing.

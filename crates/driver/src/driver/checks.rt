@@ -13,6 +13,7 @@ use protocol::refusal::{Cause, Refusal};
 
 impl<C: Chip> Driver<C> {
     // The part at the width in force, and PE.
+    #[tactic(auto, unfolding(chips::specs::Pins::org_on))]
     pub(crate) fn shape(&self) -> Result<(Organisation, bool), Refusal>
         ensures { result ≡ shape_on (C.Chip.meaning self.now.chip) }
     {

@@ -13,7 +13,7 @@ impl Call {
     {
         match self {
             Call::Read { .. } => 1,
-            Call::Run { count, .. } => count as usize,
+            Call::Run { count, .. } => count,
             _ => 0,
         }
     }

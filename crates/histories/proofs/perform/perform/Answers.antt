@@ -1,5 +1,18 @@
-use Rattle.histories.proofs.Carried.{alike}
+use Rattle.histories.proofs.Carried.{truthful, believed, busy}
+use Rattle.histories.proofs.Handed.{tells, counts}
 use Rattle.histories.proofs.perform.perform.Goals as goal
 
-pub returns-clause-alike : goal.returns-clause-alike
-returns-clause-alike g c = alike g.C.Chip.next c.args.calls.now _ c.facts.ensures.fits
+pub returns-clause-truthful : goal.returns-clause-truthful
+returns-clause-truthful g c =
+    truthful c.args.calls.now _ _ _ (tells g.C.Chip.next c.args.calls.now _ _ _ _ _ _ c.perform_in_room.ensures) c.facts.ensures.fits
+
+pub returns-clause-believed : goal.returns-clause-believed
+returns-clause-believed g c =
+    believed c.args.calls.now _ _ _ (tells g.C.Chip.next c.args.calls.now _ _ _ _ _ _ c.perform_in_room.ensures) c.facts.ensures.fits
+
+pub returns-clause-busy : goal.returns-clause-busy
+returns-clause-busy g c =
+    busy c.args.calls.now _ _ _ (tells g.C.Chip.next c.args.calls.now _ _ _ _ _ _ c.perform_in_room.ensures) c.facts.ensures.fits
+
+pub returns-clause-counted : goal.returns-clause-counted
+returns-clause-counted g c = counts g.C.Chip.next c.args.calls.now _ _ _ _ _ _ c.perform_in_room.ensures

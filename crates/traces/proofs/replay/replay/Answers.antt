@@ -1,5 +1,5 @@
 use Rattle.std.proofs.Common.{rules}
-use Rattle.models.specs.Meaning.{pins_of}
+use Rattle.chips.specs.Meaning.{pins_of}
 use Rattle.traces.proofs.Replays.{accounts_are}
 use Rattle.traces.proofs.replay.replay.Goals as goal
 

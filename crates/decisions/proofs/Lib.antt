@@ -1,0 +1,10 @@
+pub mod Acting
+pub mod Folding
+pub mod Still
+pub mod Busy
+pub mod Prefixes
+pub mod Sessions
+pub mod Entries
+pub mod Kept
+pub mod Turns
+pub mod Proved

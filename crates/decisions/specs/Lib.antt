@@ -1,0 +1,3 @@
+pub mod Decided
+pub mod Reader
+pub mod Laws

@@ -1,5 +1,0 @@
-pub mod Sizes
-pub mod Powered
-pub mod Meaning
-pub mod Rewriting
-pub mod Traced
