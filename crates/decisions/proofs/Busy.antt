@@ -1,6 +1,6 @@
 -- A chip that is selected while a cycle is under way.
 use Rattle.wire.proofs.Keeping.{put_keeps_blank}
-use Rattle.std.proofs.Common.{◌≡◌, ℕ, zero, suc, ◌-◌, ◌<◌, Bool, true, false, not, eqb, List, [], ◌∷◌, ◌++◌, refl, ap, ◌∙◌, arith}
+use Rattle.std.proofs.Common.{◌≡◌, ℕ, zero, suc, ◌-◌, ◌<◌, Bool, true, false, not, eqb, List, [], ◌∷◌, ◌++◌, refl, ap, ◌∙◌, arith, ◌&&◌}
 use Rattle.std.proofs.lemmas.Bool.{cond_both, and_parts}
 use Rattle.std.proofs.lemmas.Bool.Decides.{nat_tests}
 use Rattle.protocol.specs.declared.instruction.Instruction.{Instruction as Sent}
@@ -14,14 +14,18 @@ use Rattle.chips.specs.declared.state.Phase.TheVariants.{Over}
 use Rattle.chips.specs.declared.state.State.{State}
 use Rattle.chips.specs.Control.{Turn, turn_to, aged, ended, deselected, is_busy_rise, shown_busy, is_clock, clocked, turned, turn}
 use Rattle.chips.specs.Pins.{Pins, Put, sample_of, put_on}
-use Rattle.wire.specs.Deciding.{decision_on, noted, notes}
+use Rattle.wire.specs.Deciding.{decision_on, notes_with, notes}
 use Rattle.wire.specs.Fields.{count_in, code_in, zeros_in}
 use Rattle.wire.specs.Frames.{selected, rest, clock, bit_at, clocks, opening, frame_of}
 use Rattle.wire.specs.Places.{width_on, left_on, Rest}
 use Rattle.wire.proofs.Whole.{in_parts}
-use Rattle.decisions.specs.Decided.{selecting}
-use Rattle.decisions.specs.Laws.{BusyDecidesNothing, BusyFrame}
-use Rattle.decisions.proofs.Still.{still_decides_nothing, idle_still, idle_decides_nothing}
+use Rattle.decisions.specs.Laws.{BusyFrame}
+use Rattle.decisions.proofs.Still.{no_clock_decides_nothing, idle_still, idle_decides_nothing}
+
+-- CS stays high
+unfoldable is_selected : List Put → Bool
+is_selected [] = true
+is_selected (x ∷ xs) = x.cs && is_selected xs
 
 record Stays (t : Turn) : Type 0 where
   pub nothing : t.decision ≡ Nothing
@@ -63,22 +67,24 @@ module _ (p : Pins) (x : Put) (high : x.cs ≡ true) where
       let b : is_busy_rise (aged p.machine.state) ≡ true = simp (r.low, z) in
       let h = rises_over p.machine.setup (sample_of p x) (aged p.machine.state) high b in record { nothing = h.nothing; over = h.over }
 
-over_none : (place : ℕ) (p : Pins) (xs : List Put) → p.blank ≡ false → p.machine.state.phase ≡ Over → selecting xs ≡ true → notes place p (xs ++ rest) ≡ []
-unfolding notes selecting
-over_none place p [] live e h = still_decides_nothing place p rest (rw e) idle_still
+over_none : (place : ℕ) (p : Pins) (xs : List Put) → p.blank ≡ false → p.machine.state.phase ≡ Over → is_selected xs ≡ true → notes place p (xs ++ rest) ≡ []
+unfolding notes is_selected
+over_none place p [] live e h = no_clock_decides_nothing place p rest (rw e) idle_still
 over_none place p (x ∷ xs) live e h =
-    let both = and_parts x.cs (selecting xs) h in
+    let both = and_parts x.cs (is_selected xs) h in
     let t = put_stays p x both.0 (over_stays p x both.0 e) live in
-    ap (λ (d : Decision). noted place d (notes (suc place) (put_on p x) (xs ++ rest))) t.0
+    ap (λ (d : Decision). notes_with place d (notes (suc place) (put_on p x) (xs ++ rest))) t.0
     ∙ over_none (suc place) (put_on p x) xs (put_keeps_blank p x ∙ live) t.1 both.1
 
-pub busy_decides_nothing : BusyDecidesNothing
-unfolding notes selecting
+-- So until CS has been low again nothing is decided.
+busy_decides_nothing : (place : ℕ) (p : Pins) (xs : List Put) → Rest p → 1 < left_on p → is_selected xs ≡ true →
+    notes place p (xs ++ rest) ≡ []
+unfolding notes is_selected
 busy_decides_nothing place p [] r l h = idle_decides_nothing place p r
 busy_decides_nothing place p (x ∷ xs) r l h =
-    let both = and_parts x.cs (selecting xs) h in
+    let both = and_parts x.cs (is_selected xs) h in
     let t = put_stays p x both.0 (busy_rises p x both.0 r l) r.live in
-    ap (λ (d : Decision). noted place d (notes (suc place) (put_on p x) (xs ++ rest))) t.0
+    ap (λ (d : Decision). notes_with place d (notes (suc place) (put_on p x) (xs ++ rest))) t.0
     ∙ over_none (suc place) (put_on p x) xs (put_keeps_blank p x ∙ r.live) t.1 both.1
 
 -- a frame is selected but for its last sample
@@ -87,8 +93,8 @@ unfolding clocks
 clocks_append zero code xs ys = refl
 clocks_append (suc n) code xs ys = ap (clock (bit_at code n)) (clocks_append n code xs ys)
 
-clocks_select : (n code : ℕ) (xs : List Put) → selecting (clocks n code xs) ≡ selecting xs
-unfolding clocks selecting
+clocks_select : (n code : ℕ) (xs : List Put) → is_selected (clocks n code xs) ≡ is_selected xs
+unfolding clocks is_selected
 clocks_select zero code xs = refl
 clocks_select (suc n) code xs = clocks_select n code xs
 
@@ -101,8 +107,8 @@ frame_splits part width i =
     ∙ ap (λ xs. opening (count_in part width i) (code_in part width i) xs) (clocks_append (zeros_in width i) 0 (selected ∷ []) rest)
     ∙ ap (λ xs. selected ∷ clock true xs) (clocks_append (count_in part width i) (code_in part width i) (clocks (zeros_in width i) 0 (selected ∷ [])) rest)
 
-frame_selects : (part : Part) (width : Width) (i : Sent) → selecting (before_last part width i) ≡ true
-unfolding selecting
+frame_selects : (part : Part) (width : Width) (i : Sent) → is_selected (before_last part width i) ≡ true
+unfolding is_selected
 frame_selects part width i =
     clocks_select (count_in part width i) (code_in part width i) (clocks (zeros_in width i) 0 (selected ∷ []))
     ∙ clocks_select (zeros_in width i) 0 (selected ∷ [])

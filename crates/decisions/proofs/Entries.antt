@@ -1,9 +1,12 @@
 -- The reader over the samples of a chip.
+use Rattle.std.proofs.lemmas.Bool.Decides.{nat_tests}
+use Rattle.std.proofs.lemmas.List.{take-append-drop}
+use Rattle.protocol.specs.declared.settings.Edition.TheVariants.{Fall, Clock}
 use Rattle.wire.specs.Frames.{frame_of}
 use Rattle.wire.proofs.Polls.{poll_rests}
 use Rattle.wire.specs.Polling.{polls}
 use Rattle.chips.specs.declared.state.State.{State}
-use Rattle.std.proofs.Common.{◌≡◌, ℕ, suc, ◌+◌, ◌*◌, ◌≤◌, Bool, true, false, cond, ltb, List, [], ◌∷◌, ◌++◌, length, Option, Some, None, refl, sym, ap, ◌∙◌, add-one, arith}
+use Rattle.std.proofs.Common.{◌≡◌, ℕ, suc, ◌+◌, ◌*◌, ◌≤◌, Bool, true, false, cond, ltb, List, [], ◌∷◌, ◌++◌, length, Option, Some, None, refl, sym, ap, ◌∙◌, add-one, arith, take, drop, nat_lt}
 use Rattle.std.proofs.lemmas.Bool.{cond_both, lt-ltb, ltb-true}
 use Rattle.protocol.specs.declared.instruction.Instruction.{Instruction as Sent}
 use Rattle.protocol.specs.declared.instruction.Instruction.TheVariants as instruction
@@ -21,18 +24,18 @@ use Rattle.chips.specs.declared.state.Decision.TheVariants.{Nothing, Start, Addr
 use Rattle.chips.specs.Control.{is_clock_edition, turn}
 use Rattle.chips.specs.Machine.{written, after, step, run_on}
 use Rattle.chips.specs.Pins.{Pins, Put, sample_of, put_on}
-use Rattle.wire.specs.Deciding.{Note, note, decision_on, noted, notes, frame_notes, deciding_place, end_after}
-use Rattle.wire.specs.Places.{width_on, carried_out}
+use Rattle.wire.specs.Deciding.{Note, note, decision_on, notes_with, notes, frame_notes, deciding_place, end_after, frame_on, decided_at}
+use Rattle.wire.specs.Places.{width_on, carried_out, Ready, Sendable}
 use Rattle.wire.specs.Runs.{run}
 use Rattle.wire.proofs.Keeping.{put_is, put_keeps_blank}
 use Rattle.traces.specs.declared.entry.Entry.{Entry}
 use Rattle.traces.specs.declared.start_bit.StartBit.{StartBit}
 use Rattle.traces.specs.Entries.{start_after, entry_of, before, entries_from}
 use Rattle.decisions.specs.Decided.{decisions_in, notes_before, written_all}
-use Rattle.decisions.specs.Reader.{Reader, reader, read_one, read_on, bytes_put, byte_notes, entries_in, start_in, reader_at, entry_sent}
-use Rattle.decisions.specs.Laws.{ReaderAppends, ReaderGoesOn, EntriesOfAny, BytesOfAny, NotesOfBytes, RunOfBytes, EntriesAreNoted, ReaderFollows, FrameEntry, FirstEntry, StillEntries, FrameIsRead, PollEntries, PollIsRead}
-use Rattle.decisions.proofs.Still.{still_decides_nothing, rest_owes_none, polling_is_still}
-use Rattle.decisions.proofs.Prefixes.{frame_noted, first_notes, frame_ends}
+use Rattle.decisions.specs.Reader.{Reader, reader, read_one, read_on, bytes_put, byte_notes, entries_in, start_in, reader_at, entry_sent, entries_by}
+use Rattle.decisions.specs.Laws.{ReaderAppends, ReaderGoesOn, EntriesOfAny, BytesOfAny, NotesOfBytes, RunOfBytes, EntriesAreNoted, ReaderFollows, FrameEntry, NoClockNoEntry, FrameIsRead, PollIsRead, TakeEntry}
+use Rattle.decisions.proofs.Still.{no_clock_decides_nothing, rest_owes_none, polling_has_no_clock}
+use Rattle.decisions.proofs.Prefixes.{frame_noted, first_notes, frame_ends, take_test, decides_inside}
 
 -- the reader as a fold
 before-append : (e : Option Entry) (xs ys : List Entry) → before e xs ++ ys ≡ before e (xs ++ ys)
@@ -62,7 +65,7 @@ bytes_after p x [] = refl
 bytes_after p x (y ∷ ys) = ap (λ bs. byte_of (sample_of p y) ∷ bs) (bytes_after p x ys)
 
 entries_noted : (start : StartBit) (place : ℕ) (d : Decision) (ns : List Note) →
-    entries_in start (noted place d ns) ≡ before (entry_of start place d) (entries_in (start_after start place d) ns)
+    entries_in start (notes_with place d ns) ≡ before (entry_of start place d) (entries_in (start_after start place d) ns)
 unfolding entries_in
 entries_noted start place Nothing ns = refl
 entries_noted start place (Start width) ns = refl
@@ -72,7 +75,7 @@ entries_noted start place (Instruction kind width cell value verdict) ns = refl
 entries_noted start place WrongCount ns = refl
 
 start_noted : (start : StartBit) (place : ℕ) (d : Decision) (ns : List Note) →
-    start_in start (noted place d ns) ≡ start_in (start_after start place d) ns
+    start_in start (notes_with place d ns) ≡ start_in (start_after start place d) ns
 unfolding start_in
 start_noted start place Nothing ns = refl
 start_noted start place (Start width) ns = refl
@@ -105,7 +108,7 @@ entries_of_any setup r (b ∷ bs) =
     ∙ sym (entries_noted r.start r.place t.decision (byte_notes setup t.state (suc r.place) bs))
 
 decided_written : (part : Part) (place : ℕ) (d : Decision) (ns : List Note) (bytes : List ℕ) →
-    written_all part (decisions_in (noted place d ns)) bytes ≡ written_all part (decisions_in ns) (written part d bytes)
+    written_all part (decisions_in (notes_with place d ns)) bytes ≡ written_all part (decisions_in ns) (written part d bytes)
 unfolding decisions_in written_all
 decided_written part place Nothing ns bytes = refl
 decided_written part place (Start width) ns bytes = refl
@@ -135,12 +138,12 @@ notes_of_bytes p place [] live = refl
 notes_of_bytes p place (x ∷ xs) live =
     let q = put_on p x in
     ap (λ (s : Sample). let t = turn p.machine.setup p.machine.state s in
-    noted place t.decision (byte_notes p.machine.setup t.state (suc place) (bytes_put p xs))) (levels-byte_of (sample_of p x))
-    ∙ ap (λ (d : Decision). noted place d (byte_notes p.machine.setup (turn p.machine.setup p.machine.state (sample_of p x)).state (suc place) (bytes_put p xs))) (decision_is p x live)
-    ∙ ap (λ (st : State). noted place (decision_on p x) (byte_notes p.machine.setup st (suc place) (bytes_put p xs))) (state_is p x live)
-    ∙ ap (λ (s : Setup). noted place (decision_on p x) (byte_notes s q.machine.state (suc place) (bytes_put p xs))) (same_setup p x live)
-    ∙ ap (λ (bs : List ℕ). noted place (decision_on p x) (byte_notes q.machine.setup q.machine.state (suc place) bs)) (sym (bytes_after p x xs))
-    ∙ ap (noted place (decision_on p x)) (notes_of_bytes q (suc place) xs (put_keeps_blank p x ∙ live))
+    notes_with place t.decision (byte_notes p.machine.setup t.state (suc place) (bytes_put p xs))) (levels-byte_of (sample_of p x))
+    ∙ ap (λ (d : Decision). notes_with place d (byte_notes p.machine.setup (turn p.machine.setup p.machine.state (sample_of p x)).state (suc place) (bytes_put p xs))) (decision_is p x live)
+    ∙ ap (λ (st : State). notes_with place (decision_on p x) (byte_notes p.machine.setup st (suc place) (bytes_put p xs))) (state_is p x live)
+    ∙ ap (λ (s : Setup). notes_with place (decision_on p x) (byte_notes s q.machine.state (suc place) (bytes_put p xs))) (same_setup p x live)
+    ∙ ap (λ (bs : List ℕ). notes_with place (decision_on p x) (byte_notes q.machine.setup q.machine.state (suc place) bs)) (sym (bytes_after p x xs))
+    ∙ ap (notes_with place (decision_on p x)) (notes_of_bytes q (suc place) xs (put_keeps_blank p x ∙ live))
 
 pub run_of_bytes : RunOfBytes
 unfolding run_on run bytes_put
@@ -226,16 +229,41 @@ module _ (p : Pins) (i : Sent) (start : StartBit) (place end : ℕ) where
   entry_before true e = ap (entries_in start) (both_before e) ∙ entry_is p i start place
   entry_before false e = ap (entries_in start) (start_before e) ∙ start_alone start (suc (suc place)) (width_on p) (ltb (suc (suc place)) end)
 
-pub first_entry : FirstEntry
+first_entry : (p : Pins) (i : Sent) (start : StartBit) (place : ℕ) (xs ys : List Put) → Ready p → Sendable p (address_in i) (value_in i) →
+    xs ++ ys ≡ frame_on p i →
+    entries_by p.machine.setup (reader_at p start place) (bytes_put p xs)
+    ≡ cond (nat_lt (decided_at p i place) (place + length xs)) (entry_sent p i place ∷ []) []
 first_entry p i start place xs ys r f h =
     entries_are_noted p start place xs r.rest.live
     ∙ ap (entries_in start) (first_notes place p i xs ys r f h)
     ∙ entry_before p i start place (place + length xs) _ refl
 
-pub still_entries : StillEntries
+-- the place of the decision counts from where the frame begins
+end_on : (edition : Edition) (place n : ℕ) → end_after edition (place + n) ≡ place + end_after edition (0 + n)
+end_on Fall place n = omega arith
+end_on Clock place n = omega arith
+
+decides_on : (p : Pins) (kind : Kind) (place : ℕ) → deciding_place p kind place ≡ place + deciding_place p kind 0
+decides_on p Read place = omega arith
+decides_on p Write place = end_on p.machine.setup.edition place _
+decides_on p Erase place = end_on p.machine.setup.edition place _
+decides_on p Wen place = end_on p.machine.setup.edition place _
+decides_on p Wds place = end_on p.machine.setup.edition place _
+decides_on p Eral place = end_on p.machine.setup.edition place _
+decides_on p Wrall place = end_on p.machine.setup.edition place _
+
+pub take_entry : TakeEntry
+take_entry p i start place k r f =
+    let frame = frame_on p i in
+    let moved : nat_lt (decided_at p i place) (place + length (take k frame)) ≡ nat_lt (decided_at p i 0) (length (take k frame)) =
+    let e = decides_on p (kind_in i) place in grind (arith, nat_tests) in
+    first_entry p i start place (take k frame) (drop k frame) r f (take-append-drop k frame)
+    ∙ ap (λ (c : Bool). cond c (entry_sent p i place ∷ []) []) (moved ∙ take_test _ k frame (decides_inside p i r f))
+
+pub no_clock_no_entry : NoClockNoEntry
 unfolding entries_in
-still_entries p start place xs live h s =
-    entries_are_noted p start place xs live ∙ ap (entries_in start) (still_decides_nothing place p xs h s)
+no_clock_no_entry p start place xs live h s =
+    entries_are_noted p start place xs live ∙ ap (entries_in start) (no_clock_decides_nothing place p xs h s)
 
 -- the reader after a frame and after polling
 start_is : (p : Pins) (i : Sent) (start : StartBit) (place : ℕ) →
@@ -259,13 +287,10 @@ frame_is_read p i start place r f =
     ∙ ap (λ (s : StartBit). reader_at (carried_out p (kind_in i) (address_in i) (value_in i)) s (place + length frame)) (start_is p i start place)
     ∙ ap (λ k. reader_at (carried_out p (kind_in i) (address_in i) (value_in i)) (record { width = width_on p; place = k }) (place + length frame)) two
 
-pub poll_entries : PollEntries
-poll_entries p start place r = still_entries p start place (polls p) r.live (rest_owes_none p r) (polling_is_still p)
-
 pub poll_is_read : PollIsRead
 unfolding start_in
 poll_is_read p start place r =
     reader_follows p start place (polls p) r.live
     ∙ ap (λ (ns : List Note). reader_at (run p (polls p)) (start_in start ns) (place + length (polls p)))
-    (still_decides_nothing place p (polls p) (rest_owes_none p r) (polling_is_still p))
+    (no_clock_decides_nothing place p (polls p) (rest_owes_none p r) (polling_has_no_clock p))
     ∙ ap (λ (q : Pins). reader_at q start (place + length (polls p))) (poll_rests p r)

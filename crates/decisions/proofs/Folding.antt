@@ -9,15 +9,15 @@ use Rattle.chips.specs.declared.state.Decision.{Decision}
 use Rattle.chips.specs.declared.state.Decision.TheVariants.{Nothing, Start, Address, Data, Instruction, WrongCount}
 use Rattle.chips.specs.Machine.{written}
 use Rattle.chips.specs.Pins.{Pins, Put, put_on}
-use Rattle.wire.specs.Deciding.{Note, note, decision_on, noted, notes}
+use Rattle.wire.specs.Deciding.{Note, note, decision_on, notes_with, notes}
 use Rattle.wire.specs.Places.{left_on}
 use Rattle.wire.specs.Runs.{run}
 use Rattle.wire.proofs.Keeping.{put_keeps_blank}
-use Rattle.decisions.specs.Decided.{mattering, decisions_of, decisions_in, notes_before, written_all, enabled_by, enabled_all, left_by, left_after, is_changing, no_change}
-use Rattle.decisions.specs.Laws.{DecisionsAppend, NotesAppend, DecisionsAreNoted, NotesOfFirst, BytesAreDecided, EnabledIsDecided, LeftOfRun, LeftOnlyAges, BytesStay, TakeOfDecisions, TakeOfAppend}
+use Rattle.decisions.specs.Decided.{decisions_with, decisions_of, decisions_in, notes_before, written_all, enabled_by, enabled_all, left_by, left_after, is_changing, no_change}
+use Rattle.decisions.specs.Laws.{DecisionsAppend, NotesAppend, DecisionsAreNoted, NotesOfFirst, BytesAreDecided, EnabledIsDecided, LeftOfRun, LeftOnlyAges, BytesStay, TakeOfDecisions}
 use Rattle.decisions.proofs.Acting.{put-setup, put-bytes, put-enabled, left_is_decided, unwritten, uncycled}
 
-pub mattering-append : (d : Decision) (xs ys : List Decision) → mattering d xs ++ ys ≡ mattering d (xs ++ ys)
+pub mattering-append : (d : Decision) (xs ys : List Decision) → decisions_with d xs ++ ys ≡ decisions_with d (xs ++ ys)
 mattering-append Nothing xs ys = refl
 mattering-append (Start width) xs ys = refl
 mattering-append (Address width cell) xs ys = refl
@@ -29,10 +29,10 @@ pub decisions_append : DecisionsAppend
 unfolding decisions_of run
 decisions_append p [] ys = refl
 decisions_append p (x ∷ xs) ys =
-    ap (mattering (decision_on p x)) (decisions_append (put_on p x) xs ys)
+    ap (decisions_with (decision_on p x)) (decisions_append (put_on p x) xs ys)
     ∙ sym (mattering-append (decision_on p x) (decisions_of (put_on p x) xs) (decisions_of (run (put_on p x) xs) ys))
 
-noted-append : (place : ℕ) (d : Decision) (xs ys : List Note) → noted place d xs ++ ys ≡ noted place d (xs ++ ys)
+noted-append : (place : ℕ) (d : Decision) (xs ys : List Note) → notes_with place d xs ++ ys ≡ notes_with place d (xs ++ ys)
 noted-append place Nothing xs ys = refl
 noted-append place (Start width) xs ys = refl
 noted-append place (Address width cell) xs ys = refl
@@ -45,12 +45,12 @@ unfolding notes run
 notes_append place p [] ys = ap (λ k. notes k p ys) (omega arith)
 notes_append place p (x ∷ xs) ys =
     let e : suc place + length xs ≡ place + suc (length xs) = omega arith in
-    ap (noted place (decision_on p x))
+    ap (notes_with place (decision_on p x))
     (notes_append (suc place) (put_on p x) xs ys
     ∙ ap (λ k. notes (suc place) (put_on p x) xs ++ notes k (run (put_on p x) xs) ys) e)
     ∙ sym (noted-append place (decision_on p x) (notes (suc place) (put_on p x) xs) _)
 
-decisions_noted : (place : ℕ) (d : Decision) (ns : List Note) → decisions_in (noted place d ns) ≡ mattering d (decisions_in ns)
+decisions_noted : (place : ℕ) (d : Decision) (ns : List Note) → decisions_in (notes_with place d ns) ≡ decisions_with d (decisions_in ns)
 unfolding decisions_in
 decisions_noted place Nothing ns = refl
 decisions_noted place (Start width) ns = refl
@@ -63,12 +63,12 @@ pub decisions_are_noted : DecisionsAreNoted
 unfolding decisions_of decisions_in notes
 decisions_are_noted place p [] = refl
 decisions_are_noted place p (x ∷ xs) =
-    ap (mattering (decision_on p x)) (decisions_are_noted (suc place) (put_on p x) xs)
+    ap (decisions_with (decision_on p x)) (decisions_are_noted (suc place) (put_on p x) xs)
     ∙ sym (decisions_noted place (decision_on p x) (notes (suc place) (put_on p x) xs))
 
 -- bytes and open flag
 written-mattering : (part : Part) (d : Decision) (ds : List Decision) (bytes : List ℕ) →
-    written_all part (mattering d ds) bytes ≡ written_all part ds (written part d bytes)
+    written_all part (decisions_with d ds) bytes ≡ written_all part ds (written part d bytes)
 unfolding written_all
 written-mattering part Nothing ds bytes = refl
 written-mattering part (Start width) ds bytes = refl
@@ -87,7 +87,7 @@ bytes_are_decided p (x ∷ xs) =
     ∙ ap (written_all p.machine.setup.part (decisions_of q xs)) (put-bytes p x)
     ∙ sym (written-mattering p.machine.setup.part (decision_on p x) (decisions_of q xs) p.machine.bytes)
 
-enabled-mattering : (d : Decision) (ds : List Decision) (b : Bool) → enabled_all (mattering d ds) b ≡ enabled_all ds (enabled_by d b)
+enabled-mattering : (d : Decision) (ds : List Decision) (b : Bool) → enabled_all (decisions_with d ds) b ≡ enabled_all ds (enabled_by d b)
 unfolding enabled_all
 enabled-mattering Nothing ds b = refl
 enabled-mattering (Start width) ds b = refl
@@ -105,7 +105,7 @@ enabled_is_decided p (x ∷ xs) =
     ∙ sym (enabled-mattering (decision_on p x) (decisions_of q xs) p.machine.state.enabled)
 
 -- no change
-no_change-mattering : (d : Decision) (ds : List Decision) → no_change (mattering d ds) ≡ not (is_changing d) && no_change ds
+no_change-mattering : (d : Decision) (ds : List Decision) → no_change (decisions_with d ds) ≡ not (is_changing d) && no_change ds
 unfolding no_change
 no_change-mattering Nothing ds = refl
 no_change-mattering (Start width) ds = refl
@@ -139,7 +139,7 @@ bytes_stay p xs h = bytes_are_decided p xs ∙ unwritten_all p.machine.setup.par
 
 -- notes before a place
 module _ (end place : ℕ) where
-  before-noted : (d : Decision) (ns : List Note) → ltb place end ≡ true → notes_before end (noted place d ns) ≡ noted place d (notes_before end ns)
+  before-noted : (d : Decision) (ns : List Note) → ltb place end ≡ true → notes_before end (notes_with place d ns) ≡ notes_with place d (notes_before end ns)
   unfolding notes_before
   before-noted Nothing ns h = refl
   before-noted (Start width) ns h = simp h
@@ -148,7 +148,7 @@ module _ (end place : ℕ) where
   before-noted (Instruction kind width cell value verdict) ns h = simp h
   before-noted WrongCount ns h = simp h
 
-  past-noted : (d : Decision) (ns : List Note) → ltb place end ≡ false → notes_before end (noted place d ns) ≡ notes_before end ns
+  past-noted : (d : Decision) (ns : List Note) → ltb place end ≡ false → notes_before end (notes_with place d ns) ≡ notes_before end ns
   unfolding notes_before
   past-noted Nothing ns h = refl
   past-noted (Start width) ns h = simp h
@@ -169,7 +169,7 @@ notes_of_first place p [] ys = sym (none_before (place + 0) place p ys (omega ar
 notes_of_first place p (x ∷ xs) ys =
     let q = put_on p x in
     let e : suc place + length xs ≡ place + suc (length xs) = omega arith in
-    ap (noted place (decision_on p x))
+    ap (notes_with place (decision_on p x))
     (notes_of_first (suc place) q xs ys ∙ ap (λ k. notes_before k (notes (suc place) q (xs ++ ys))) e)
     ∙ sym (before-noted (place + suc (length xs)) place (decision_on p x) _ (lt-ltb place _ (omega arith)))
 
@@ -182,7 +182,7 @@ later_on : (place : ℕ) (ns : List Note) → Later (suc place) ns → Later pla
 later_on place [] h = tt
 later_on place (n ∷ ns) h = omega arith
 
-later_noted : (place : ℕ) (d : Decision) (ns : List Note) → Later (suc place) ns → Later place (noted place d ns)
+later_noted : (place : ℕ) (d : Decision) (ns : List Note) → Later (suc place) ns → Later place (notes_with place d ns)
 later_noted place Nothing ns h = later_on place ns h
 later_noted place (Start width) ns h = omega arith
 later_noted place (Address width cell) ns h = omega arith
@@ -210,7 +210,7 @@ module _ (setup : Setup) (place end : ℕ) (h : suc place ≤ end) where
       let e : left - (suc place - place) ≡ left - 1 = omega arith in ap (λ k. left_after setup (suc place) end ns (left_by setup d k)) e
 
   left_noted : (d : Decision) (ns : List Note) (left : ℕ) → Later (suc place) ns →
-      left_after setup place end (noted place d ns) left ≡ left_after setup (suc place) end ns (left_by setup d (left - 1))
+      left_after setup place end (notes_with place d ns) left ≡ left_after setup (suc place) end ns (left_by setup d (left - 1))
   left_noted Nothing ns left l = left_silent ns left l
   left_noted (Start width) ns left l = left_here (Start width) ns left
   left_noted (Address width cell) ns left l = left_here (Address width cell) ns left
@@ -249,7 +249,8 @@ take_both (suc k) (x ∷ xs) ys =
     let e : suc k - suc (length xs) ≡ k - length xs = omega arith in ap (λ zs. x ∷ zs) (take_both k xs ys) ∙ rw e
 
 -- past the first list the run has gone through all of it, and before its end nothing of the second is sent
-pub take_of_append : TakeOfAppend
+pub take_of_append : (p : Pins) (xs ys : List Put) (k : ℕ) →
+    decisions_of p (take k (xs ++ ys)) ≡ decisions_of p (take k xs) ++ decisions_of (run p xs) (take (k - length xs) ys)
 unfolding decisions_of
 take_of_append p xs ys k =
     ap (decisions_of p) (take_both k xs ys) ∙ decisions_append p (take k xs) (take (k - length xs) ys)

@@ -5,6 +5,5 @@ pub mod Busy
 pub mod Prefixes
 pub mod Sessions
 pub mod Entries
-pub mod Kept
 pub mod Turns
 pub mod Proved

@@ -1,24 +1,25 @@
 -- Frames and their first samples.
+use Rattle.wire.specs.Runs.{run}
 use Rattle.std.proofs.lemmas.Bool.Decides.{nat_tests}
 use Rattle.std.proofs.lemmas.Bool.{ltb-true}
 use Rattle.std.proofs.lemmas.List.{take-append-drop, append-nil, length-take}
-use Rattle.std.proofs.Common.{◌≡◌, ℕ, ◌+◌, Bool, true, false, cond, ltb, List, [], ◌∷◌, ◌++◌, length, refl, ap, ◌∙◌, zero-add, ◌<◌, take, drop, sym, arith}
+use Rattle.std.proofs.Common.{◌≡◌, ℕ, ◌+◌, Bool, true, false, cond, ltb, List, [], ◌∷◌, ◌++◌, length, refl, ap, ◌∙◌, zero-add, ◌<◌, take, drop, sym, arith, nat_lt}
 use Rattle.protocol.specs.declared.instruction.Instruction.{Instruction as Sent}
 use Rattle.protocol.specs.declared.instruction.Kind.{Kind}
 use Rattle.protocol.specs.declared.instruction.Kind.TheVariants.{Read, Write, Erase, Wen, Wds, Eral, Wrall}
 use Rattle.protocol.specs.declared.parts.Part.{Part}
 use Rattle.protocol.specs.declared.parts.Width.{Width}
-use Rattle.protocol.specs.Instructions.{is_change, kind_in, address_in, value_in}
+use Rattle.protocol.specs.Instructions.{kind_in, address_in, value_in}
 use Rattle.chips.specs.declared.state.Decision.{Decision}
 use Rattle.chips.specs.declared.state.Decision.TheVariants.{Start}
 use Rattle.chips.specs.Machine.{written}
 use Rattle.chips.specs.Pins.{Pins, Put}
-use Rattle.wire.specs.Deciding.{Note, note, notes, frame_decides, frame_notes, deciding_place}
+use Rattle.wire.specs.Deciding.{Note, note, notes, frame_decides, frame_notes, deciding_place, frame_on, decision_by, decided_at, carried_by}
 use Rattle.wire.specs.Frames.{frame_of}
 use Rattle.wire.specs.Places.{width_on, Rest, Ready, Sendable, carried_out}
 use Rattle.wire.proofs.Decided.{frame_goes}
-use Rattle.decisions.specs.Decided.{mattering, decisions_in, notes_before, written_all, is_changing, no_change}
-use Rattle.decisions.specs.Laws.{FrameNotes, FrameDecides, FrameEnds, FrameRests, FirstDecide, FirstChange, FirstKeep, DecidesInside, TakeDecide, TakeChange}
+use Rattle.decisions.specs.Decided.{decisions_with, decisions_in, notes_before, written_all, decisions_of}
+use Rattle.decisions.specs.Laws.{FrameNotes, FrameDecides, FrameEnds, FrameRests, DecidesInside, TakeDecide, TakeChange}
 use Rattle.decisions.proofs.Folding.{decisions_are_noted, notes_of_first, bytes_are_decided}
 
 pub frame_noted : FrameNotes
@@ -35,7 +36,7 @@ frame_rests p i r f = rw (frame_ends p i r f) (carried_rests p (kind_in i) (addr
 
 -- what a frame decides matters
 module _ (p : Pins) where
-  one_decision : (kind : Kind) (address value : ℕ) → mattering (frame_decides p kind address value) [] ≡ frame_decides p kind address value ∷ []
+  one_decision : (kind : Kind) (address value : ℕ) → decisions_with (frame_decides p kind address value) [] ≡ frame_decides p kind address value ∷ []
   one_decision Read address value = refl
   one_decision Write address value = refl
   one_decision Erase address value = refl
@@ -43,15 +44,6 @@ module _ (p : Pins) where
   one_decision Wds address value = refl
   one_decision Eral address value = refl
   one_decision Wrall address value = refl
-
-  changing : (kind : Kind) (address value : ℕ) → is_changing (frame_decides p kind address value) ≡ is_change kind
-  changing Read address value = refl
-  changing Write address value = refl
-  changing Erase address value = refl
-  changing Wen address value = refl
-  changing Wds address value = refl
-  changing Eral address value = refl
-  changing Wrall address value = refl
 
   -- the address bits of a kind without address change nothing
   pub written_is : (kind : Kind) (address value : ℕ) →
@@ -65,7 +57,7 @@ module _ (p : Pins) where
   written_is Wrall address value = refl
 
 -- of a start bit and a decision, those before a place
-module _ (end first last : ℕ) (width : Width) (d : Decision) (h : mattering d [] ≡ d ∷ []) where
+module _ (end first last : ℕ) (width : Width) (d : Decision) (h : decisions_with d [] ≡ d ∷ []) where
   by : (b c : Bool) →
       decisions_in (cond b (note first (Start width) ∷ cond c (note last d ∷ []) []) (cond c (note last d ∷ []) [])) ≡ cond c (d ∷ []) []
   unfolding decisions_in
@@ -91,7 +83,8 @@ first_notes place p i xs ys r f h =
     notes_of_first place p xs ys ∙ ap (λ zs. notes_before (place + length xs) (notes place p zs)) h
     ∙ ap (notes_before (place + length xs)) (frame_noted place p i r f)
 
-pub first_decide : FirstDecide
+pub first_decide : (p : Pins) (i : Sent) (xs ys : List Put) → Ready p → Sendable p (address_in i) (value_in i) →
+    xs ++ ys ≡ frame_on p i → decisions_of p xs ≡ cond (nat_lt (decided_at p i 0) (length xs)) (decision_by p i ∷ []) []
 first_decide p i xs ys r f h =
     decisions_are_noted 0 p xs ∙ ap decisions_in (first_notes 0 p i xs ys r f h)
     ∙ of_two (0 + length xs) 2 (deciding_place p (kind_in i) 0) (width_on p) _ (one_decision p (kind_in i) (address_in i) (value_in i))
@@ -103,7 +96,9 @@ unfolding written_all
 written_if part true d bytes = refl
 written_if part false d bytes = refl
 
-pub first_change : FirstChange
+first_change : (p : Pins) (i : Sent) (xs ys : List Put) → Ready p → Sendable p (address_in i) (value_in i) →
+    xs ++ ys ≡ frame_on p i → 
+    (run p xs).machine.bytes ≡ cond (nat_lt (decided_at p i 0) (length xs)) (carried_by p i).machine.bytes p.machine.bytes
 first_change p i xs ys r f h =
     let d = frame_decides p (kind_in i) (address_in i) (value_in i) in
     let c = ltb (deciding_place p (kind_in i) 0) (length xs) in
@@ -111,15 +106,6 @@ first_change p i xs ys r f h =
     ∙ ap (λ (ds : List Decision). written_all p.machine.setup.part ds p.machine.bytes) (first_decide p i xs ys r f h)
     ∙ written_if p.machine.setup.part c d p.machine.bytes
     ∙ ap (λ (b : List ℕ). cond c b p.machine.bytes) (written_is p (kind_in i) (address_in i) (value_in i))
-
-keeps_if : (c : Bool) (d : Decision) → is_changing d ≡ false → no_change (cond c (d ∷ []) []) ≡ true
-unfolding no_change
-keeps_if true d h = rw h
-keeps_if false d h = refl
-
-pub first_keep : FirstKeep
-first_keep p i xs ys r f h k =
-    ap no_change (first_decide p i xs ys r f h) ∙ keeps_if _ _ (changing p (kind_in i) (address_in i) (value_in i) ∙ k)
 
 -- the first k samples
 only_true : (c : Bool) (d : Decision) → d ∷ [] ≡ cond c (d ∷ []) [] → c ≡ true
@@ -132,7 +118,7 @@ decides_inside p i r f =
     let c = ltb (deciding_place p (kind_in i) 0) (length frame) in
     ltb-true _ _ (only_true c _ (sym (frame_decided p i r f) ∙ first_decide p i frame [] r f (append-nil frame)))
 
-take_test : (d k : ℕ) (xs : List Put) → d < length xs → ltb d (length (take k xs)) ≡ ltb d k
+pub take_test : (d k : ℕ) (xs : List Put) → d < length xs → ltb d (length (take k xs)) ≡ ltb d k
 take_test d k xs h = let e = length-take k xs in grind (arith, nat_tests)
 
 pub take_decide : TakeDecide

@@ -13,14 +13,14 @@ use Rattle.wire.specs.Polling.{polls, is_ready}
 use Rattle.wire.specs.Runs.{run}
 use Rattle.wire.proofs.Polls.{poll_rests, poll_ready_iff}
 use Rattle.decisions.specs.Decided.{decisions_of, written_all}
-use Rattle.decisions.specs.Laws.{ready_chip, sent_chip, polled_frame, PolledDecide, PolledChange}
+use Rattle.decisions.specs.Laws.{changed_chip, polled_frame, PolledDecide, PolledChange}
 use Rattle.decisions.proofs.Folding.{bytes_are_decided, take_of_append}
 use Rattle.decisions.proofs.Prefixes.{frame_ends, carried_rests, take_decide, written_if, written_is}
 use Rattle.decisions.proofs.Still.{poll_take}
 
 module _ (p : Pins) (i : Sent) (r : Rest p) (seen : is_ready p ≡ true) (f : Sendable p (address_in i) (value_in i)) where
   abbrev q : Pins
-  q = ready_chip p
+  q = resting p 0
 
   abbrev frame : List Put
   frame = frame_of p.machine.setup.part (width_on p) i
@@ -48,12 +48,12 @@ module _ (p : Pins) (i : Sent) (r : Rest p) (seen : is_ready p ≡ true) (f : Se
   fits = record { in_field = f.in_field; in_width = f.in_width }
 
   -- the frame and what follows it
-  frame_first : (k : ℕ) → decisions_of q (take k (frame ++ polls (sent_chip p i))) ≡ cond (ltb place k) (d ∷ []) []
+  frame_first : (k : ℕ) → decisions_of q (take k (frame ++ polls (changed_chip p i))) ≡ cond (ltb place k) (d ∷ []) []
   frame_first k =
-      take_of_append q frame (polls (sent_chip p i)) k
-      ∙ ap (λ (o : Pins). decisions_of q (take k frame) ++ decisions_of o (take (k - length frame) (polls (sent_chip p i)))) (frame_ends q i ready fits)
+      take_of_append q frame (polls (changed_chip p i)) k
+      ∙ ap (λ (o : Pins). decisions_of q (take k frame) ++ decisions_of o (take (k - length frame) (polls (changed_chip p i)))) (frame_ends q i ready fits)
       ∙ ap (λ (ds : List Decision). decisions_of q (take k frame) ++ ds)
-      (poll_take (sent_chip p i) (k - length frame) (carried_rests q (kind_in i) (address_in i) (value_in i) r.live))
+      (poll_take (changed_chip p i) (k - length frame) (carried_rests q (kind_in i) (address_in i) (value_in i) r.live))
       ∙ append-nil _ ∙ take_decide q i k ready fits
 
   abbrev all : List Put
@@ -63,12 +63,12 @@ module _ (p : Pins) (i : Sent) (r : Rest p) (seen : is_ready p ≡ true) (f : Se
   decides k =
       let n = length (polls p) in
       let t : ltb place (k - n) ≡ ltb (n + place) k = grind (arith, nat_tests) in
-      take_of_append p (polls p) (frame ++ polls (sent_chip p i)) k
-      ∙ ap (λ (ds : List Decision). ds ++ decisions_of (run p (polls p)) (take (k - n) (frame ++ polls (sent_chip p i)))) (poll_take p k r)
-      ∙ ap (λ (o : Pins). decisions_of o (take (k - n) (frame ++ polls (sent_chip p i)))) polled
+      take_of_append p (polls p) (frame ++ polls (changed_chip p i)) k
+      ∙ ap (λ (ds : List Decision). ds ++ decisions_of (run p (polls p)) (take (k - n) (frame ++ polls (changed_chip p i)))) (poll_take p k r)
+      ∙ ap (λ (o : Pins). decisions_of o (take (k - n) (frame ++ polls (changed_chip p i)))) polled
       ∙ frame_first (k - n) ∙ ap (λ (c : Bool). cond c (d ∷ []) []) t
 
-  changes : (k : ℕ) → (run p (take k all)).machine.bytes ≡ cond (ltb (length (polls p) + place) k) (sent_chip p i).machine.bytes p.machine.bytes
+  changes : (k : ℕ) → (run p (take k all)).machine.bytes ≡ cond (ltb (length (polls p) + place) k) (changed_chip p i).machine.bytes p.machine.bytes
   changes k =
       let c = ltb (length (polls p) + place) k in
       bytes_are_decided p (take k all)

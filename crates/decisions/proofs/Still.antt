@@ -2,7 +2,7 @@
 use Rattle.decisions.proofs.Folding.{decisions_are_noted}
 use Rattle.wire.specs.Runs.{run}
 use Rattle.std.proofs.lemmas.List.{take-append-drop}
-use Rattle.std.proofs.Common.{◌≡◌, ℕ, zero, suc, Bool, true, false, not, [], ◌∷◌, ◌++◌, refl, ap, ◌∙◌, arith, ◌&&◌, take, drop}
+use Rattle.std.proofs.Common.{◌≡◌, ℕ, zero, suc, Bool, true, false, not, [], ◌∷◌, ◌++◌, refl, ap, ◌∙◌, arith, ◌&&◌, take, drop, List}
 use Rattle.std.proofs.lemmas.Bool.{cond_both, and_parts, and_from}
 use Rattle.protocol.specs.declared.sample.Sample.{Sample}
 use Rattle.protocol.specs.declared.settings.Setup.{Setup}
@@ -14,12 +14,12 @@ use Rattle.chips.specs.declared.state.State.{State}
 use Rattle.chips.specs.Control.{Turn, turn_to, ending, aged, ended, deselected, is_busy_rise, shown_busy, is_clock, turned, turn}
 use Rattle.chips.specs.Machine.{step}
 use Rattle.chips.specs.Pins.{Pins, Put, sample_of, put_on}
-use Rattle.wire.specs.Deciding.{decision_on, noted, notes}
-use Rattle.wire.specs.Frames.{selected, rest}
+use Rattle.wire.specs.Deciding.{decision_on, notes_with, notes}
+use Rattle.wire.specs.Frames.{selected, rest, idle}
 use Rattle.wire.specs.Places.{Rest}
 use Rattle.wire.specs.Polling.{shows_busy, tries, most_tries, polls}
-use Rattle.decisions.specs.Decided.{owes, still, decisions_in, unselected}
-use Rattle.decisions.specs.Laws.{StillDecidesNothing, PollingIsStill, StillAppends, IdleDecidesNothing, PollDecidesNothing, PollTake, UnselectedIsStill, UnselectedRests}
+use Rattle.decisions.specs.Decided.{owes, has_no_clock, decisions_in, is_unselected}
+use Rattle.decisions.specs.Laws.{NoClockDecidesNothing, PollingHasNoClock, PollTake, UnselectedHasNoClock, UnselectedRests}
 
 record Calm (t : Turn) : Type 0 where
   pub nothing : t.decision ≡ Nothing
@@ -68,43 +68,43 @@ module _ (p : Pins) (x : Put) (h : owes p.machine.state.phase ≡ false) (low : 
 is_low : (b : Bool) → not b ≡ true → b ≡ false
 is_low b h = grind arith
 
-pub still_decides_nothing : StillDecidesNothing
-unfolding notes still
-still_decides_nothing place p [] h s = refl
-still_decides_nothing place p (x ∷ xs) h s =
-    let both = and_parts (not (x.cs && x.sk)) (still xs) s in
+pub no_clock_decides_nothing : NoClockDecidesNothing
+unfolding notes has_no_clock
+no_clock_decides_nothing place p [] h s = refl
+no_clock_decides_nothing place p (x ∷ xs) h s =
+    let both = and_parts (not (x.cs && x.sk)) (has_no_clock xs) s in
     let low : x.cs && x.sk ≡ false = is_low (x.cs && x.sk) both.0 in
-    ap (λ (d : Decision). noted place d (notes (suc place) (put_on p x) xs)) (put_nothing p x h low)
-    ∙ still_decides_nothing (suc place) (put_on p x) xs (put_owes_none p x h low) both.1
+    ap (λ (d : Decision). notes_with place d (notes (suc place) (put_on p x) xs)) (put_nothing p x h low)
+    ∙ no_clock_decides_nothing (suc place) (put_on p x) xs (put_owes_none p x h low) both.1
 
-tries_still : (n : ℕ) (p : Pins) → still (tries n p ++ rest) ≡ true
-unfolding tries still
+tries_still : (n : ℕ) (p : Pins) → has_no_clock (tries n p ++ rest) ≡ true
+unfolding tries has_no_clock
 tries_still zero p = refl
 tries_still (suc n) p =
-    cond_both (shows_busy p) (tries n (put_on p selected)) [] (λ xs. still (xs ++ rest) ≡ true) (λ _. tries_still n (put_on p selected)) (λ _. refl)
+    cond_both (shows_busy p) (tries n (put_on p selected)) [] (λ xs. has_no_clock (xs ++ rest) ≡ true) (λ _. tries_still n (put_on p selected)) (λ _. refl)
 
-pub polling_is_still : PollingIsStill
-polling_is_still p = tries_still most_tries p
+pub polling_has_no_clock : PollingHasNoClock
+polling_has_no_clock p = tries_still most_tries p
 
-pub still_appends : StillAppends
-unfolding still
-still_appends [] ys h = refl
-still_appends (x ∷ xs) ys h =
-    let both = and_parts (not (x.cs && x.sk)) (still (xs ++ ys)) h in and_from (not (x.cs && x.sk)) (still xs) both.0 (still_appends xs ys both.1)
+no_clock_first : (xs ys : List Put) → has_no_clock (xs ++ ys) ≡ true → has_no_clock xs ≡ true
+unfolding has_no_clock
+no_clock_first [] ys h = refl
+no_clock_first (x ∷ xs) ys h =
+    let both = and_parts (not (x.cs && x.sk)) (has_no_clock (xs ++ ys)) h in and_from (not (x.cs && x.sk)) (has_no_clock xs) both.0 (no_clock_first xs ys both.1)
 
 pub rest_owes_none : (p : Pins) → Rest p → owes p.machine.state.phase ≡ false
 rest_owes_none p r = rw r.waiting
 
-pub idle_still : still rest ≡ true
-unfolding still
+pub idle_still : has_no_clock rest ≡ true
+unfolding has_no_clock
 idle_still = refl
 
-pub idle_decides_nothing : IdleDecidesNothing
-idle_decides_nothing place p r = still_decides_nothing place p rest (rest_owes_none p r) idle_still
+pub idle_decides_nothing : (place : ℕ) (p : Pins) → Rest p → notes place p (idle ∷ []) ≡ []
+idle_decides_nothing place p r = no_clock_decides_nothing place p rest (rest_owes_none p r) idle_still
 
-pub poll_decides_nothing : PollDecidesNothing
+poll_decides_nothing : (place : ℕ) (p : Pins) (xs ys : List Put) → Rest p → xs ++ ys ≡ polls p → notes place p xs ≡ []
 poll_decides_nothing place p xs ys r h =
-    still_decides_nothing place p xs (rest_owes_none p r) (still_appends xs ys (ap still h ∙ polling_is_still p))
+    no_clock_decides_nothing place p xs (rest_owes_none p r) (no_clock_first xs ys (ap has_no_clock h ∙ polling_has_no_clock p))
 
 pub poll_take : PollTake
 unfolding decisions_in
@@ -115,19 +115,19 @@ poll_take p k r =
 no_cs : (b c : Bool) → not b ≡ true → not (b && c) ≡ true
 no_cs b c h = grind arith
 
-pub unselected_is_still : UnselectedIsStill
-unfolding unselected still
-unselected_is_still [] h = refl
-unselected_is_still (x ∷ xs) h =
-    let both = and_parts (not x.cs) (unselected xs) h in
-    and_from (not (x.cs && x.sk)) (still xs) (no_cs x.cs x.sk both.0) (unselected_is_still xs both.1)
+pub unselected_has_no_clock : UnselectedHasNoClock
+unfolding is_unselected has_no_clock
+unselected_has_no_clock [] h = refl
+unselected_has_no_clock (x ∷ xs) h =
+    let both = and_parts (not x.cs) (is_unselected xs) h in
+    and_from (not (x.cs && x.sk)) (has_no_clock xs) (no_cs x.cs x.sk both.0) (unselected_has_no_clock xs both.1)
 
 put_rests : (p : Pins) (x : Put) → Rest p → x.cs ≡ false → Rest (put_on p x)
 unfolding put_on turn
 put_rests p x r low = record { live = r.live; low = simp (r.live, low); waiting = simp (r.live, low); dark = simp (r.live, low) }
 
 pub unselected_rests : UnselectedRests
-unfolding unselected run
+unfolding is_unselected run
 unselected_rests p [] r h = r
 unselected_rests p (x ∷ xs) r h =
-    let both = and_parts (not x.cs) (unselected xs) h in unselected_rests (put_on p x) xs (put_rests p x r (is_low x.cs both.0)) both.1
+    let both = and_parts (not x.cs) (is_unselected xs) h in unselected_rests (put_on p x) xs (put_rests p x r (is_low x.cs both.0)) both.1

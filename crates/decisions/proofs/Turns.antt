@@ -1,7 +1,7 @@
 -- Start bits and decisions take turns.
 use Rattle.decisions.proofs.Entries.{entries_of_any}
 use Rattle.traces.specs.Entries.{no_start}
-use Rattle.decisions.specs.Reader.{reader, read_one, read_on, byte_notes, entries_in, EntriesOrdered}
+use Rattle.decisions.specs.Reader.{reader, read_one, read_on, byte_notes, entries_in, EntriesOrdered, Reader}
 use Rattle.traces.specs.declared.start_bit.StartBit.{StartBit}
 use Rattle.traces.specs.declared.entry.Entry.{Entry}
 use Rattle.std.proofs.Common.{◌≡◌, ℕ, suc, ◌+◌, ◌*◌, Bool, true, false, not, ◌&&◌, cond, eqb, ltb, List, [], ◌∷◌, length, refl, sym, ap, arith, subst, add-one, ◌<◌, ◌≤◌, zero-add}
@@ -20,10 +20,10 @@ use Rattle.chips.specs.declared.state.State.{State}
 use Rattle.chips.specs.Control.{Turn, turn_to, in_phase, is_clock_edition, instruction_at, obeyed, aged, ending, ended, deselected, is_busy_rise, shown_busy, is_clock, taken, appended, clocked, turned, turn, power_up}
 use Rattle.chips.specs.Machine.{step}
 use Rattle.chips.specs.Pins.{Pins, Put, sample_of, put_on}
-use Rattle.wire.specs.Deciding.{Note, decision_on, noted, notes, note}
+use Rattle.wire.specs.Deciding.{Note, decision_on, notes_with, notes, note}
 use Rattle.wire.specs.Runs.{run}
 use Rattle.decisions.specs.Decided.{owes, Settled, Alternate, InOrder}
-use Rattle.decisions.specs.Laws.{EachStartIsDecided, RunsSettle, NotesInOrder, AnyAlternate, AnyInOrder, EntriesInOrder}
+use Rattle.decisions.specs.Laws.{EachStartIsDecided, RunsSettle, NotesInOrder, EntriesInOrder}
 
 -- what a decision says of what was owed before it and is owed after it
 abbrev Step : Bool → Decision → Bool → Type 0
@@ -117,7 +117,7 @@ unfolding run
 runs_settle p [] h = h
 runs_settle p (x ∷ xs) h = runs_settle (put_on p x) xs (put_settles p x h)
 
-alternate_noted : (place : ℕ) (a b end : Bool) (d : Decision) (ns : List Note) → Step a d b → Alternate b ns end → Alternate a (noted place d ns) end
+alternate_noted : (place : ℕ) (a b end : Bool) (d : Decision) (ns : List Note) → Step a d b → Alternate b ns end → Alternate a (notes_with place d ns) end
 unfolding Alternate
 alternate_noted place a b end Nothing ns s h = subst (λ (c : Bool). Alternate c ns end) s h
 alternate_noted place a b end (Start width) ns s h = rw s.0 (refl, subst (λ (c : Bool). Alternate c ns end) s.1 h)
@@ -139,7 +139,7 @@ unfolding InOrder
 in_order_on place end [] h = omega arith
 in_order_on place end (n ∷ ns) h = (omega (arith, h.0), h.1)
 
-in_order_noted : (place end : ℕ) (d : Decision) (ns : List Note) → InOrder (suc place) ns end → InOrder place (noted place d ns) end
+in_order_noted : (place end : ℕ) (d : Decision) (ns : List Note) → InOrder (suc place) ns end → InOrder place (notes_with place d ns) end
 unfolding InOrder
 in_order_noted place end Nothing ns h = in_order_on place end ns h
 in_order_noted place end (Start width) ns h = (omega arith, h)
@@ -157,7 +157,8 @@ notes_in_order place p (x ∷ xs) =
     (subst (λ k. InOrder (suc place) (notes (suc place) (put_on p x) xs) k) e (notes_in_order (suc place) (put_on p x) xs))
 
 -- any samples
-pub any_alternate : AnyAlternate
+any_alternate : (setup : Setup) (r : Reader) (bs : List ℕ) → (r.state.cs ≡ false → owes r.state.phase ≡ false) →
+    Alternate (owes r.state.phase) (byte_notes setup r.state r.place bs) (owes (read_on setup r bs).state.phase)
 unfolding byte_notes read_on Alternate
 any_alternate setup r [] h = refl
 any_alternate setup r (b ∷ bs) h =
@@ -175,9 +176,6 @@ notes_ordered setup st place (b ∷ bs) =
     let e : suc place + length bs ≡ place + suc (length bs) = omega arith in
     in_order_noted place (place + suc (length bs)) t.decision (byte_notes setup t.state (suc place) bs)
     (subst (λ k. InOrder (suc place) (byte_notes setup t.state (suc place) bs) k) e (notes_ordered setup t.state (suc place) bs))
-
-pub any_in_order : AnyInOrder
-any_in_order setup r bs = notes_ordered setup r.state r.place bs
 
 -- entries of notes that take turns and stand in order
 earlier : (here place end : ℕ) (es : List Entry) → here ≤ place → EntriesOrdered place es end → EntriesOrdered here es end
@@ -231,4 +229,4 @@ entries_in_order setup bs =
     let l : 0 + length bs ≡ length bs = zero-add (length bs) in
     rw (entries_of_any setup r bs)
     ((entries_ordered (owes (read_on setup r bs).state.phase) (length bs) (byte_notes setup power_up 0 bs)).1 no_start 0
-    (any_alternate setup r bs (λ _. refl)) (subst (λ k. InOrder 0 (byte_notes setup power_up 0 bs) k) l (any_in_order setup r bs)))
+    (any_alternate setup r bs (λ _. refl)) (subst (λ k. InOrder 0 (byte_notes setup power_up 0 bs) k) l (notes_ordered setup power_up 0 bs)))

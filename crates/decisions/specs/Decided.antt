@@ -1,5 +1,5 @@
 -- What samples decide, in order: the addresses of READs, the instructions, and the wrong counts.
-use Rattle.std.specs.Prelude.{◌≡◌, ℕ, suc, ◌-◌, ◌≤◌, Bool, true, false, not, ◌&&◌, cond, List, [], ◌∷◌, nat_lt}
+use Rattle.std.specs.Prelude.{if◌then◌else◌, ◌≡◌, ℕ, suc, ◌-◌, ◌≤◌, Bool, true, false, not, ◌&&◌, List, [], ◌∷◌, nat_lt}
 use Rattle.protocol.specs.declared.instruction.Kind.{Kind}
 use Rattle.protocol.specs.declared.instruction.Kind.TheVariants.{Read, Write, Erase, Wen, Wds, Eral, Wrall}
 use Rattle.protocol.specs.declared.parts.Part.{Part}
@@ -14,27 +14,27 @@ use Rattle.chips.specs.Pins.{Pins, Put, put_on}
 use Rattle.wire.specs.Deciding.{Note, decision_on}
 
 -- a decision before others, if it is one that matters
-abbrev pub mattering : Decision → List Decision → List Decision
-mattering Nothing ds = ds
-mattering (Start width) ds = ds
-mattering (Address width cell) ds = Address width cell ∷ ds
-mattering (Data width cell next) ds = ds
-mattering (Instruction kind width cell value verdict) ds = Instruction kind width cell value verdict ∷ ds
-mattering WrongCount ds = WrongCount ∷ ds
+abbrev pub decisions_with : Decision → List Decision → List Decision
+decisions_with Nothing ds = ds
+decisions_with (Start width) ds = ds
+decisions_with (Address width cell) ds = Address width cell ∷ ds
+decisions_with (Data width cell next) ds = ds
+decisions_with (Instruction kind width cell value verdict) ds = Instruction kind width cell value verdict ∷ ds
+decisions_with WrongCount ds = WrongCount ∷ ds
 
 unfoldable pub decisions_of : Pins → List Put → List Decision
 decisions_of p [] = []
-decisions_of p (x ∷ xs) = mattering (decision_on p x) (decisions_of (put_on p x) xs)
+decisions_of p (x ∷ xs) = decisions_with (decision_on p x) (decisions_of (put_on p x) xs)
 
 -- the decisions among notes
 unfoldable pub decisions_in : List Note → List Decision
 decisions_in [] = []
-decisions_in (n ∷ ns) = mattering n.decision (decisions_in ns)
+decisions_in (n ∷ ns) = decisions_with n.decision (decisions_in ns)
 
 -- the notes of samples before a place
 unfoldable pub notes_before : ℕ → List Note → List Note
 notes_before end [] = []
-notes_before end (n ∷ ns) = cond (nat_lt n.place end) (n ∷ notes_before end ns) (notes_before end ns)
+notes_before end (n ∷ ns) = if nat_lt n.place end then n ∷ notes_before end ns else notes_before end ns
 
 -- What decisions do to the bytes, to the open flag, and to the samples left of a cycle.
 unfoldable pub written_all : Part → List Decision → List ℕ → List ℕ
@@ -108,19 +108,14 @@ owes Spoiled = true
 owes Over = false
 
 -- no clock: CS and SK are never high together
-unfoldable pub still : List Put → Bool
-still [] = true
-still (x ∷ xs) = not (x.cs && x.sk) && still xs
+unfoldable pub has_no_clock : List Put → Bool
+has_no_clock [] = true
+has_no_clock (x ∷ xs) = not (x.cs && x.sk) && has_no_clock xs
 
 -- CS stays low
-unfoldable pub unselected : List Put → Bool
-unselected [] = true
-unselected (x ∷ xs) = not x.cs && unselected xs
-
--- CS stays high
-unfoldable pub selecting : List Put → Bool
-selecting [] = true
-selecting (x ∷ xs) = x.cs && selecting xs
+unfoldable pub is_unselected : List Put → Bool
+is_unselected [] = true
+is_unselected (x ∷ xs) = not x.cs && is_unselected xs
 
 -- A chip whose CS is low owes nothing: so every chip at rest, and every chip after a sample.
 abbrev pub Settled : Pins → Type 0

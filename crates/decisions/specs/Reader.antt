@@ -1,7 +1,5 @@
 -- The reader as a fold, and the entries of a chip's run.
-use Rattle.decisions.specs.Decided.{mattering}
-use Rattle.chips.specs.declared.state.Decision.{Decision}
-use Rattle.std.specs.Prelude.{ℕ, suc, ◌+◌, ◌%◌, List, [], ◌∷◌, Some, ◌≤◌, ◌<◌, ◌++◌}
+use Rattle.std.specs.Prelude.{ℕ, suc, ◌+◌, ◌%◌, List, [], ◌∷◌, Some, ◌≤◌, ◌<◌}
 use Rattle.protocol.specs.declared.instruction.Instruction.{Instruction as Sent}
 use Rattle.protocol.specs.declared.settings.Setup.{Setup}
 use Rattle.protocol.specs.Instructions.{kind_in, address_in, value_in}
@@ -10,7 +8,7 @@ use Rattle.protocol.specs.Samples.{levels, byte_of}
 use Rattle.chips.specs.declared.state.State.{State}
 use Rattle.chips.specs.Control.{verdict_of, turn}
 use Rattle.chips.specs.Pins.{Pins, Put, sample_of}
-use Rattle.wire.specs.Deciding.{Note, noted, deciding_place, decision_on}
+use Rattle.wire.specs.Deciding.{Note, notes_with, deciding_place}
 use Rattle.wire.specs.Places.{width_on}
 use Rattle.traces.specs.declared.entry.Entry.{Entry}
 use Rattle.traces.specs.declared.start_bit.StartBit.{StartBit}
@@ -42,18 +40,11 @@ unfoldable pub bytes_put : Pins → List Put → List ℕ
 bytes_put p [] = []
 bytes_put p (x ∷ xs) = byte_of (sample_of p x) ∷ bytes_put p xs
 
--- A chip may keep what its samples decide, and their bytes.
-abbrev pub keep_decisions : List Decision → Pins → Put → List Decision
-keep_decisions ds p x = ds ++ mattering (decision_on p x) []
-
-abbrev pub keep_bytes : List ℕ → Pins → Put → List ℕ
-keep_bytes bs p x = bs ++ (byte_of (sample_of p x) ∷ [])
-
 -- what is noted of any sample bytes, from a state on
 unfoldable pub byte_notes : Setup → State → ℕ → List ℕ → List Note
 byte_notes setup st place [] = []
 byte_notes setup st place (b ∷ bs) =
-    noted place (turn setup st (levels b)).decision (byte_notes setup (turn setup st (levels b)).state (suc place) bs)
+    notes_with place (turn setup st (levels b)).decision (byte_notes setup (turn setup st (levels b)).state (suc place) bs)
 
 -- the entries of notes, and the start bit after them
 unfoldable pub entries_in : StartBit → List Note → List Entry

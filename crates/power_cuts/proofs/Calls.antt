@@ -24,10 +24,10 @@ use Rattle.wire.proofs.Resting.{idle-rests}
 use Rattle.driver.specs.Checks.{Checked, greetable, admitted, changeable}
 use Rattle.driver.specs.Outcome.{State, Outcome, state, outcome, then, bind, sent}
 use Rattle.driver.specs.Calls as calls
-use Rattle.decisions.specs.Decided.{mattering, decisions_of, decisions_in, no_change}
+use Rattle.decisions.specs.Decided.{decisions_with, decisions_of, decisions_in, no_change}
 use Rattle.decisions.proofs.Folding.{decisions_are_noted}
 use Rattle.decisions.proofs.Prefixes.{frame_decided, frame_rests}
-use Rattle.decisions.proofs.Still.{still_decides_nothing, rest_owes_none, polling_is_still}
+use Rattle.decisions.proofs.Still.{no_clock_decides_nothing, rest_owes_none, polling_has_no_clock}
 use Rattle.histories.specs.declared.call.Call.{Call}
 use Rattle.histories.specs.declared.call.Call.TheVariants.{Greet, Settle, Open, Shut, Read, Run, Write, Erase, Fill, Clear}
 use Rattle.histories.specs.Events.{performed, bare_chip}
@@ -43,7 +43,7 @@ Driver = State (List Put)
 polls_none : (p : Pins) → Rest p → no_change (decisions_of p (polls p)) ≡ true
 unfolding decisions_in no_change
 polls_none p r =
-    ap no_change (decisions_are_noted 0 p (polls p) ∙ ap decisions_in (still_decides_nothing 0 p (polls p) (rest_owes_none p r) (polling_is_still p)))
+    ap no_change (decisions_are_noted 0 p (polls p) ∙ ap decisions_in (no_clock_decides_nothing 0 p (polls p) (rest_owes_none p r) (polling_has_no_clock p)))
 
 polls_quiet : (x : Seen (List Put)) → Rest x.pins → Adds no_change x (told keep_puts x (polls x.pins))
 polls_quiet x r = tells no_change x (polls x.pins) (polls_none x.pins r)
@@ -63,7 +63,7 @@ one_sample : (p : Pins) (x : Put) → few (decisions_of p (x ∷ [])) ≡ true
 unfolding decisions_of few no_change
 one_sample p x = by (decision_on p x)
   where
-    by : (d : Decision) → few (mattering d []) ≡ true
+    by : (d : Decision) → few (decisions_with d []) ≡ true
     by d = grind arith
 
 one_few : (d : Decision) → few (d ∷ []) ≡ true

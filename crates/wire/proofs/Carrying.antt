@@ -18,7 +18,7 @@ use Rattle.chips.specs.Pins.{Pins, Put, put_on}
 use Rattle.wire.specs.Frames.{ending, opening, field_bits, code_of, read_opening}
 use Rattle.wire.specs.Runs.{run}
 use Rattle.wire.specs.Places.{width_on, Ready, Sendable, placed, rest_state, since, carried_out, reading}
-use Rattle.wire.specs.Deciding.{Note, note, notes, instructed, addressed, last_clock, end_after}
+use Rattle.wire.specs.Deciding.{Note, note, notes, instruction_sent, address_sent, last_clock, end_after}
 use Rattle.wire.specs.Laws.{FrameCarriesOut, ReadOpensCell}
 use Rattle.wire.proofs.Coded.{code_lt, kind_code, field_code, value_code}
 use Rattle.wire.proofs.Going.{goes, goes_by}
@@ -79,10 +79,10 @@ module _ (p : Pins) (address value : ℕ) (r : Ready p) (f : Sendable p address 
   changed_field v bytes = grind arith
 
   -- what its bits decide is the instruction
-  instruction-code : instruction_at p.machine.setup p.machine.state.enabled p.pe width length code ≡ instructed p kind address value
+  instruction-code : instruction_at p.machine.setup p.machine.state.enabled p.pe width length code ≡ instruction_sent p kind address value
   instruction-code = rw (is_kind, is_field, value_code part width address value f.in_field f.in_width kind)
 
-  done-instructed : done p (instructed p kind address value) ≡ carried_out p kind address value
+  done-instructed : done p (instruction_sent p kind address value) ≡ carried_out p kind address value
   done-instructed = rw changed_field
 
   opens : (place : ℕ) (after : List Put) (q : Pins × List Note) →
@@ -100,13 +100,13 @@ module _ (p : Pins) (address value : ℕ) (r : Ready p) (f : Sendable p address 
       goes place p (opening length code ending)
       ≡ (
         carried_out p kind address value,
-        note (suc (suc place)) (Start width) ∷ note (end_after p.machine.setup.edition (last place)) (instructed p kind address value) ∷ [],
+        note (suc (suc place)) (Start width) ∷ note (end_after p.machine.setup.edition (last place)) (instruction_sent p kind address value) ∷ [],
       )
   carries_out place other =
       opens place ending _ (λ phase.
       whole_ends p r.rest.live length code (last place) phase _ refl (rw is_kind (eq-eqb length _ refl)) (and_right _ _ (ap is_read is_kind ∙ other))
       ∙ ap (λ (d : Decision). (done p d, note (end_after p.machine.setup.edition (last place)) d ∷ [])) instruction-code
-      ∙ ap (λ (q : Pins). (q, note (end_after p.machine.setup.edition (last place)) (instructed p kind address value) ∷ [])) done-instructed)
+      ∙ ap (λ (q : Pins). (q, note (end_after p.machine.setup.edition (last place)) (instruction_sent p kind address value) ∷ [])) done-instructed)
 
 pub frame_carries_out : FrameCarriesOut
 frame_carries_out p kind address value r f other = ap (λ (x : Pins × List Note). x.0) (carries_out p address value r f kind 0 other)
@@ -117,7 +117,7 @@ pub opens_cell : (p : Pins) (address : ℕ) (after : List Put) (place : ℕ) →
     ≡ (
       run (reading p address) after,
       note (suc (suc place)) (Start (width_on p))
-          ∷ note (last_clock p Read place) (addressed p address) ∷ notes (suc (last_clock p Read place)) (reading p address) after,
+          ∷ note (last_clock p Read place) (address_sent p address) ∷ notes (suc (last_clock p Read place)) (reading p address) after,
     )
 opens_cell p address after place r f =
     let whole = eq-eqb (length p address 0 r f Read) (2 + field_of p.machine.setup.part (width_on p)) (omega arith) in
@@ -127,7 +127,7 @@ opens_cell p address after place r f =
   where
     bits_read : (p : Pins) (address : ℕ) (r : Ready p) (f : Sendable p address 0) (phase : Phase) →
         eqb (length p address 0 r f Read) (2 + field_of p.machine.setup.part (width_on p)) ≡ true →
-        bits_taken p (length p address 0 r f Read) (code p address 0 r f Read) phase ≡ (reading p address, addressed p address)
+        bits_taken p (length p address 0 r f Read) (code p address 0 r f Read) phase ≡ (reading p address, address_sent p address)
     bits_read p address r f phase whole = simp (whole, is_kind p address 0 r f Read, is_field p address 0 r f Read)
 
 pub read_opens_cell : ReadOpensCell

@@ -9,7 +9,7 @@ use Rattle.chips.specs.Control.{is_clock_edition}
 use Rattle.chips.specs.declared.state.Decision.TheVariants.{Start}
 use Rattle.chips.specs.Pins.{Pins}
 use Rattle.wire.specs.Frames.{clocks, ending, frame_of}
-use Rattle.wire.specs.Deciding.{Note, note, addressed, last_clock, frame_notes}
+use Rattle.wire.specs.Deciding.{Note, note, address_sent, last_clock, frame_notes}
 use Rattle.wire.specs.Places.{width_on, Ready, Sendable, rest_state, resting, placed, carried_out}
 use Rattle.wire.proofs.Carrying.{carries_out, opens_cell}
 use Rattle.wire.proofs.Going.{goes}
@@ -30,7 +30,7 @@ pub frame_goes : (p : Pins) (i : Instruction) (place : ℕ) → Ready p → Send
 unfolding frame_of
 frame_goes p (instruction.Read address words) place r f =
     opens_cell p address (clocks (words * bits_of (width_on p)) 0 ending) place r f
-    ∙ ap (λ (x : Pins × List Note). (x.0, note (suc (suc place)) (Start (width_on p)) ∷ note (last_clock p Read place) (addressed p address) ∷ x.1))
+    ∙ ap (λ (x : Pins × List Note). (x.0, note (suc (suc place)) (Start (width_on p)) ∷ note (last_clock p Read place) (address_sent p address) ∷ x.1))
     (zeros_end p r.rest.live (width_on p) (words * bits_of (width_on p)) _ 0 0 (suc (last_clock p Read place)))
     ∙ ap (λ (q : Pins). (q, frame_notes p place (instruction.Read address words))) (read_carried p address)
 frame_goes p (instruction.Write address value) place r f = carries_out p address value r f Write place refl

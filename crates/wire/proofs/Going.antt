@@ -3,7 +3,7 @@ use Rattle.std.proofs.Common.{◌≡◌, ℕ, suc, List, ◌∷◌, ap}
 use Rattle.chips.specs.declared.state.Decision.{Decision}
 use Rattle.chips.specs.Pins.{Pins, Put, put_on}
 use Rattle.wire.specs.Runs.{run}
-use Rattle.wire.specs.Deciding.{Note, decision_on, noted, notes}
+use Rattle.wire.specs.Deciding.{Note, decision_on, notes_with, notes}
 
 -- one sample
 abbrev pub act : Pins → Put → Pins × Decision
@@ -15,7 +15,7 @@ goes place p xs = (run p xs, notes place p xs)
 
 -- the sample at a place did this, and what follows it
 abbrev pub goes_by : ℕ → Pins × Decision → List Put → Pins × List Note
-goes_by place a xs = (run a.0 xs, noted place a.1 (notes (suc place) a.0 xs))
+goes_by place a xs = (run a.0 xs, notes_with place a.1 (notes (suc place) a.0 xs))
 
 pub go : (place : ℕ) (p : Pins) (x : Put) (xs : List Put) (a : Pins × Decision) → act p x ≡ a → goes place p (x ∷ xs) ≡ goes_by place a xs
 unfolding run notes
