@@ -8,7 +8,8 @@ use Rattle.protocol.specs.declared.refusal.Refusal.{Refusal}
 use Rattle.protocol.specs.Parts.{bits_of}
 use Rattle.protocol.specs.Refusals.{refusal}
 use Rattle.chips.specs.Pins.{Pins, Put}
-use Rattle.wire.specs.Frames.{idle, frame_of, read_opening}
+pub use Rattle.wire.specs.Deciding.{frame_on}
+use Rattle.wire.specs.Frames.{idle, read_opening}
 use Rattle.wire.specs.Hearing.{words_heard}
 use Rattle.wire.specs.Places.{width_on}
 use Rattle.wire.specs.Polling.{polls, is_ready}
@@ -16,10 +17,7 @@ use Rattle.wire.specs.Runs.{run}
 use Rattle.driver.specs.Outcome.{State, Outcome, outcome, bind, sent, noted}
 use Rattle.driver.specs.Checks.{Checked, greetable, admitted, changeable}
 
--- the frame of an instruction on a chip, and the words that a READ gives out
-abbrev pub frame_on : Pins → Instruction → List Put
-frame_on p i = frame_of p.machine.setup.part (width_on p) i
-
+-- the words that a READ gives out
 abbrev pub words_on : Pins → ℕ → ℕ → List ℕ
 words_on p address count =
     words_heard (bits_of (width_on p)) count (run p (read_opening p.machine.setup.part (width_on p) address []))
