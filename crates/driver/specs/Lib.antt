@@ -4,3 +4,4 @@ pub mod Checks
 pub mod Calls
 pub mod Reads
 pub mod Held
+pub mod Cases
