@@ -1,3 +1,4 @@
 pub mod Steps
 pub mod Framing
 pub mod Judging
+pub mod Following
