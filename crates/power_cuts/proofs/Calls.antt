@@ -1,205 +1,177 @@
 -- Each call sends samples with at most one change among their decisions.
-use Rattle.histories.proofs.Views.{greets}
-use Rattle.std.proofs.Common.{◌≡◌, ℕ, ◌-◌, Bool, true, false, cond, List, [], ◌∷◌, Ok, Err, Result, refl, sym, ap, ◌∙◌, subst, inl, inr, zero-le, arith}
+use Rattle.std.proofs.Common.{◌≡◌, ℕ, ◌-◌, ◌<◌, ◌≤◌, Bool, true, false, cond, List, [], ◌∷◌, ◌++◌, Ok, Err, refl, sym, ap, ◌∙◌, subst, inl, inr, zero-le, arith}
+use Rattle.std.specs.Prelude.{if◌then◌else◌, not, ◌||◌}
 use Rattle.std.proofs.lemmas.Bool.Decides.{leb_tells}
+use Rattle.std.proofs.lemmas.List.{append-nil}
 use Rattle.protocol.specs.declared.instruction.Instruction.{Instruction}
 use Rattle.protocol.specs.declared.instruction.Instruction.TheVariants as instruction
-use Rattle.protocol.specs.declared.refusal.Cause.{Cause}
-use Rattle.protocol.specs.declared.refusal.Cause.TheVariants.{Busy}
-use Rattle.protocol.specs.declared.refusal.Refusal.{Refusal}
 use Rattle.protocol.specs.Instructions.{address_in, value_in}
-use Rattle.protocol.specs.Refusals.{refusal}
 use Rattle.protocol.proofs.Table.{agreed}
 use Rattle.chips.specs.declared.state.Decision.{Decision}
-use Rattle.chips.specs.Pins.{Pins, Put}
-use Rattle.chips.specs.Seen.{Seen}
-use Rattle.wire.specs.Deciding.{decision_on}
+use Rattle.chips.specs.Pins.{Pins, Put, put_on}
+use Rattle.wire.specs.Deciding.{decision_on, frame_on}
 use Rattle.wire.specs.Frames.{idle}
 use Rattle.wire.specs.Places.{left_on, Rest, Ready, Sendable, resting}
 use Rattle.wire.specs.Polling.{polls, is_ready}
 use Rattle.wire.specs.Runs.{run}
-use Rattle.wire.specs.Sent.{told}
 use Rattle.wire.proofs.Polls.{poll_rests, poll_ready_iff}
 use Rattle.wire.proofs.Resting.{idle-rests}
 use Rattle.driver.specs.Checks.{Checked, greetable, admitted, changeable}
-use Rattle.driver.specs.Outcome.{State, Outcome, state, outcome, then, bind, sent}
-use Rattle.driver.specs.Calls as calls
+use Rattle.driver.specs.Outcome.{State, state}
+use Rattle.driver.specs.Cases.{Request, Greet, Settle, Turn, Fetch, Change, Stage, Refused, Polled, Started, Finished, stage_by, stage_of, samples_at, samples_of, lead_of, frame_by, polls_twice, check_of, pins_at_first, pins_after_first, pins_at_second}
 use Rattle.decisions.specs.Decided.{decisions_with, decisions_of, decisions_in, no_change}
-use Rattle.decisions.proofs.Folding.{decisions_are_noted}
+use Rattle.decisions.proofs.Folding.{decisions_append, decisions_are_noted}
 use Rattle.decisions.proofs.Prefixes.{frame_decided, frame_rests}
 use Rattle.decisions.proofs.Still.{no_clock_decides_nothing, rest_owes_none, polling_has_no_clock}
-use Rattle.histories.specs.declared.call.Call.{Call}
-use Rattle.histories.specs.declared.call.Call.TheVariants.{Greet, Settle, Open, Shut, Read, Run, Write, Erase, Fill, Clear}
-use Rattle.histories.specs.Events.{performed, bare_chip}
+use Rattle.histories.specs.Events.{bare_chip}
 use Rattle.histories.proofs.Checks.{Admitted, admitted_finds, changeable_finds, sendable}
 use Rattle.histories.proofs.Effects.{Sound}
-use Rattle.power_cuts.specs.Cuts.{keep_puts}
-use Rattle.power_cuts.proofs.Few.{few, Adds, told_run, tells, nothing_added, quiet_few, quiet_quiet, quiet_then, then_quiet}
+use Rattle.power_cuts.proofs.Few.{few, few_none, no_changes, few_then, then_few}
 
-abbrev pub Driver : Type 0
-Driver = State (List Put)
+-- samples of which at most one, or none, decides a change
+abbrev IsFew : Pins → List Put → Type 0
+IsFew p xs = few (decisions_of p xs) ≡ true
+
+abbrev IsQuiet : Pins → List Put → Type 0
+IsQuiet p xs = no_change (decisions_of p xs) ≡ true
+
+nothing_quiet : (p : Pins) → IsQuiet p []
+unfolding decisions_of no_change
+nothing_quiet p = refl
+
+quiet_few : (p : Pins) (xs : List Put) → IsQuiet p xs → IsFew p xs
+quiet_few p xs h = few_none _ h
+
+quiet_quiet : (p : Pins) (xs ys : List Put) → IsQuiet p xs → IsQuiet (run p xs) ys → IsQuiet p (xs ++ ys)
+quiet_quiet p xs ys h g = ap no_change (decisions_append p xs ys) ∙ no_changes _ _ h g
+
+quiet_then_few : (p : Pins) (xs ys : List Put) → IsQuiet p xs → IsFew (run p xs) ys → IsFew p (xs ++ ys)
+quiet_then_few p xs ys h g = ap few (decisions_append p xs ys) ∙ then_few _ _ h g
+
+few_then_quiet : (p : Pins) (xs ys : List Put) → IsFew p xs → IsQuiet (run p xs) ys → IsFew p (xs ++ ys)
+few_then_quiet p xs ys h g = ap few (decisions_append p xs ys) ∙ few_then _ _ h g
 
 -- polling
-polls_none : (p : Pins) → Rest p → no_change (decisions_of p (polls p)) ≡ true
+polls_quiet : (p : Pins) → Rest p → IsQuiet p (polls p)
 unfolding decisions_in no_change
-polls_none p r =
-    ap no_change (decisions_are_noted 0 p (polls p) ∙ ap decisions_in (no_clock_decides_nothing 0 p (polls p) (rest_owes_none p r) (polling_has_no_clock p)))
+polls_quiet p r =
+    ap no_change
+    (decisions_are_noted 0 p (polls p) ∙ ap decisions_in (no_clock_decides_nothing 0 p (polls p) (rest_owes_none p r) (polling_has_no_clock p)))
 
-polls_quiet : (x : Seen (List Put)) → Rest x.pins → Adds no_change x (told keep_puts x (polls x.pins))
-polls_quiet x r = tells no_change x (polls x.pins) (polls_none x.pins r)
-
-polls_ready : (x : Seen (List Put)) → Rest x.pins → is_ready x.pins ≡ true → (told keep_puts x (polls x.pins)).pins ≡ resting x.pins 0
-polls_ready x r h = told_run x (polls x.pins) ∙ poll_rests x.pins r ∙ ap (resting x.pins) none
+polled_ready : (p : Pins) → Rest p → is_ready p ≡ true → run p (polls p) ≡ resting p 0
+polled_ready p r h = poll_rests p r ∙ ap (resting p) none
   where
-    none : left_on x.pins - 4097 ≡ 0
+    none : left_on p - 4097 ≡ 0
     none =
-        elim (leb_tells (left_on x.pins) 4096) [
+        elim (leb_tells (left_on p) 4096) [
           | inl t ↦ omega (arith, t.1)
-          | inr t ↦ let e : true ≡ false = sym h ∙ poll_ready_iff x.pins r ∙ t.0 in cc e
+          | inr t ↦ let e : true ≡ false = sym h ∙ poll_ready_iff p r ∙ t.0 in cc e
         ]
-
--- frames
-one_sample : (p : Pins) (x : Put) → few (decisions_of p (x ∷ [])) ≡ true
-unfolding decisions_of few no_change
-one_sample p x = by (decision_on p x)
-  where
-    by : (d : Decision) → few (decisions_with d []) ≡ true
-    by d = grind arith
-
-one_few : (d : Decision) → few (d ∷ []) ≡ true
-unfolding few no_change
-one_few d = grind arith
-
-frame_few : (x : Seen (List Put)) (i : Instruction) → Ready x.pins → Sendable x.pins (address_in i) (value_in i) →
-    Adds few x (told keep_puts x (calls.frame_on x.pins i))
-frame_few x i r f = tells few x (calls.frame_on x.pins i) (ap few (frame_decided x.pins i r f) ∙ one_few _)
-
-frame_ends_rest : (x : Seen (List Put)) (i : Instruction) → Ready x.pins → Sendable x.pins (address_in i) (value_in i) →
-    Rest (told keep_puts x (calls.frame_on x.pins i)).pins
-frame_ends_rest x i r f = subst Rest (sym (told_run x (calls.frame_on x.pins i))) (frame_rests x.pins i r f)
-
--- an outcome that sent nothing of note, and has the chip ready if it is done
-record Begun (s : Driver) (check : Checked) (o : Outcome (List Put) (Unit {0})) : Type 0 where
-  pub quiet : Adds no_change s.chip o.after.chip
-  pub ready : (u : Unit {0}) → o.answer ≡ Ok u → (check ≡ Ok tt) × (o.after.chip.pins ≡ resting s.chip.pins 0)
-
-polled_begun : (cause : Cause) (s : Driver) → Rest s.chip.pins → Begun s (Ok tt) (calls.polled keep_puts cause s)
-polled_begun cause s r = record { quiet = polls_quiet s.chip r; ready = λ u e. (refl, polls_ready s.chip r (by (is_ready s.chip.pins) e)) }
-  where
-    by : {u : Unit {0}} (b : Bool) → cond b (Ok tt) (Err (refusal cause 0)) ≡ Ok u → b ≡ true
-    by true e = refl
-    by false e = cc e
-
-begun : (check : Checked) (s : Driver) → (check ≡ Ok tt → Rest s.chip.pins) → Begun s check (calls.begun keep_puts check s)
-begun (Ok u) s rest = polled_begun Busy s (rest refl)
-begun (Err e) s rest = record { quiet = nothing_added s.chip; ready = λ u h. cc h }
-
-bind_any : {T : Type 0} (x : Seen (List Put)) (k : Unit {0} → Driver → Outcome (List Put) T) (o : Outcome (List Put) (Unit {0})) →
-    Adds few x o.after.chip → ((u : Unit {0}) → o.answer ≡ Ok u → Adds few x (k u o.after).after.chip) → Adds few x (bind o k).after.chip
-bind_any {T = T} x k o q more = by o.answer refl
-  where
-    by : (r : Result (Unit {0}) Refusal) → o.answer ≡ r → Adds few x (then {U = T} r o.after k).after.chip
-    by (Ok u) e = more u e
-    by (Err r) e = q
-
-bind_few : {T : Type 0} (s : Driver) (k : Unit {0} → Driver → Outcome (List Put) T) (o : Outcome (List Put) (Unit {0})) → Adds no_change s.chip o.after.chip →
-    ((u : Unit {0}) → o.answer ≡ Ok u → Adds few s.chip (k u o.after).after.chip) → Adds few s.chip (bind o k).after.chip
-bind_few {T = T} s k o q more = bind_any {T = T} s.chip k o (quiet_few s.chip o.after.chip q) more
 
 ready_at : (p : Pins) → p.blank ≡ false → Ready (resting p 0)
 ready_at p live = record { rest = record { live = live; low = refl; waiting = refl; dark = refl }; none = refl }
 
-module _ (s : Driver) (sound : Sound (state s.greeted s.opened (bare_chip s.chip.pins))) where
+-- frames
+one_few : (d : Decision) → few (d ∷ []) ≡ true
+unfolding few no_change
+one_few d = grind arith
+
+frame_few : (p : Pins) (i : Instruction) → Ready p → Sendable p (address_in i) (value_in i) → IsFew p (frame_on p i)
+frame_few p i r f = ap few (frame_decided p i r f) ∙ one_few _
+
+wds_quiet : (p : Pins) → Ready p → IsQuiet p (frame_on p instruction.Wds)
+unfolding no_change
+wds_quiet p r = ap no_change (frame_decided p instruction.Wds r (sendable p 0 0 (agreed _ _).some zero-le))
+
+-- What a call sends by its stage, which has no more than one change if neither part has.
+at_stage_few : (check : Checked) (ready again : Bool) (p : Pins) (first more : List Put) →
+    (check ≡ Ok tt → IsFew p first) → (check ≡ Ok tt → ready ≡ true → IsFew p (first ++ more)) →
+    IsFew p (samples_at (stage_by check ready again) first more)
+at_stage_few (Err e) ready again p first more f g = quiet_few p [] (nothing_quiet p)
+at_stage_few (Ok u) false again p first more f g = f refl
+at_stage_few (Ok u) true true p first more f g = g refl refl
+at_stage_few (Ok u) true false p first more f g = g refl refl
+
+module _ (s : State (Unit {0})) (sound : Sound s) where
   abbrev p : Pins
   p = s.chip.pins
 
   rests : s.greeted ≡ true → Rest p
   rests g = (sound.held g).rest
 
-  -- a call that its check lets through: the chip after the polling is ready for its frame
-  ready_for : (i : Instruction) (x : Seen (List Put)) → Admitted p s.greeted i → x.pins ≡ resting p 0 →
-      Ready x.pins × Sendable x.pins (address_in i) (value_in i)
-  ready_for i x a e =
-      rw e (ready_at p a.live, sendable (resting p 0) (address_in i) (value_in i) a.address a.value)
+  first_few : s.greeted ≡ true → IsFew p (polls p)
+  first_few g = quiet_few p (polls p) (polls_quiet p (rests g))
 
-  settle_few : Adds few s.chip (calls.settle keep_puts s).after.chip
+  -- an admitted instruction, and what is quiet after its frame
+  framed_few : (i : Instruction) (more : List Put) → Admitted p s.greeted i → is_ready p ≡ true →
+      let q = run p (polls p) in
+      (Rest (run q (frame_on q i)) → IsQuiet (run q (frame_on q i)) more) → IsFew p (polls p ++ (frame_on q i ++ more))
+  framed_few i more a ready quiet =
+      let q = run p (polls p) in
+      let e : q ≡ resting p 0 = polled_ready p (rests a.met) ready in
+      let r : Ready q = subst Ready (sym e) (ready_at p a.live) in
+      let f : Sendable q (address_in i) (value_in i) =
+      subst (λ (o : Pins). Sendable o (address_in i) (value_in i)) (sym e) (sendable (resting p 0) (address_in i) (value_in i) a.address a.value) in
+      quiet_then_few p (polls p) (frame_on q i ++ more) (polls_quiet p (rests a.met))
+      (few_then_quiet q (frame_on q i) more (frame_few q i r f) (quiet (frame_rests q i r f)))
+
+  settle_few : IsFew p (samples_of Settle s)
+  unfolding stage_of samples_of run
   settle_few =
-      let b = begun (admitted p s.greeted instruction.Wds) s (λ h. rests (admitted_finds p s.greeted instruction.Wds h).met) in
-      quiet_few s.chip (calls.settle keep_puts s).after.chip b.quiet
+      let check = admitted p s.greeted instruction.Wds in
+      let met : check ≡ Ok tt → s.greeted ≡ true = λ h. (admitted_finds p s.greeted instruction.Wds h).met in
+      at_stage_few check (is_ready p) true p (polls p) ([] ++ []) (λ h. first_few (met h))
+      (λ h _. subst (IsFew p) (sym (append-nil (polls p))) (first_few (met h)))
 
-  turned_few : (opened : Bool) (i : Instruction) → Adds few s.chip (calls.turned keep_puts opened i s).after.chip
-  turned_few opened i =
+  turn_few : (opened : Bool) (i : Instruction) → IsFew p (samples_of (Turn opened i) s)
+  unfolding stage_of samples_of run
+  turn_few opened i =
       let check = admitted p s.greeted i in
-      let b = begun check s (λ h. rests (admitted_finds p s.greeted i h).met) in
-      let o = calls.begun keep_puts check s in
-      bind_few s _ o b.quiet (λ u e.
-      let t = b.ready u e in
-      let f = ready_for i o.after.chip (admitted_finds p s.greeted i t.0) t.1 in
-      quiet_then s.chip o.after.chip _ b.quiet (frame_few o.after.chip i f.0 f.1))
+      at_stage_few check (is_ready p) true p (polls p) (frame_on (run p (polls p)) i ++ [])
+      (λ h. first_few (admitted_finds p s.greeted i h).met)
+      (λ h ready. framed_few i [] (admitted_finds p s.greeted i h) ready (λ _. nothing_quiet _))
 
-  fetched_few : (address count : ℕ) → Adds few s.chip (calls.fetched keep_puts address count s).after.chip
-  fetched_few address count =
+  fetch_few : (address count : ℕ) → IsFew p (samples_of (Fetch address count) s)
+  unfolding stage_of samples_of run
+  fetch_few address count =
       let i = instruction.Read address count in
       let check = admitted p s.greeted i in
-      let b = begun check s (λ h. rests (admitted_finds p s.greeted i h).met) in
-      let o = calls.begun keep_puts check s in
-      bind_few s _ o b.quiet (λ u e.
-      let t = b.ready u e in
-      let f = ready_for i o.after.chip (admitted_finds p s.greeted i t.0) t.1 in
-      quiet_then s.chip o.after.chip _ b.quiet (frame_few o.after.chip i f.0 f.1))
+      at_stage_few check (is_ready p) true p (polls p) (frame_on (run p (polls p)) i ++ [])
+      (λ h. first_few (admitted_finds p s.greeted i h).met)
+      (λ h ready. framed_few i [] (admitted_finds p s.greeted i h) ready (λ _. nothing_quiet _))
 
-  changed_few : (i : Instruction) → Adds few s.chip (calls.changed keep_puts i s).after.chip
-  changed_few i =
+  change_few : (i : Instruction) → IsFew p (samples_of (Change i) s)
+  unfolding stage_of samples_of run
+  change_few i =
       let check = changeable p s.greeted s.opened i in
-      let b = begun check s (λ h. rests (changeable_finds p s.greeted s.opened i h).0.met) in
-      let o = calls.begun keep_puts check s in
-      bind_few s _ o b.quiet (λ u e.
-      let t = b.ready u e in
-      let f = ready_for i o.after.chip (changeable_finds p s.greeted s.opened i t.0).0 t.1 in
-      let y = told keep_puts o.after.chip (calls.frame_on o.after.chip.pins i) in
-      then_quiet s.chip y _ (quiet_then s.chip o.after.chip y b.quiet (frame_few o.after.chip i f.0 f.1))
-      (polls_quiet y (frame_ends_rest o.after.chip i f.0 f.1)))
+      let q = run p (polls p) in
+      at_stage_few check (is_ready p) (is_ready (run q (frame_on q i))) p (polls p) (frame_on q i ++ polls (run q (frame_on q i)))
+      (λ h. first_few (changeable_finds p s.greeted s.opened i h).0.met)
+      (λ h ready. framed_few i (polls (run q (frame_on q i))) (changeable_finds p s.greeted s.opened i h).0 ready (polls_quiet _))
 
   -- greeting: the idle sample may end an instruction that others began
-  idle_few : Adds few s.chip (told keep_puts s.chip (idle ∷ []))
-  idle_few = tells few s.chip (idle ∷ []) (one_sample p idle)
-
-  idled : Driver
-  idled = sent keep_puts (idle ∷ []) s
-
-  idled_rests : p.blank ≡ false → Rest idled.chip.pins
-  unfolding run idled
-  idled_rests live = subst Rest (sym (told_run s.chip (idle ∷ []))) (idle-rests p live)
-
-  wds_quiet : (x : Seen (List Put)) → Ready x.pins → Adds no_change x (told keep_puts x (calls.frame_on x.pins instruction.Wds))
-  unfolding no_change
-  wds_quiet x r =
-      tells no_change x (calls.frame_on x.pins instruction.Wds)
-      (ap no_change (frame_decided x.pins instruction.Wds r (sendable x.pins 0 0 (agreed _ _).some zero-le)))
-
-  greet_few : Adds few s.chip (calls.greet keep_puts s).after.chip
-  unfolding idled
-  greet_few = by (greetable p) refl
+  idle_few : IsFew p (idle ∷ [])
+  unfolding decisions_of few no_change
+  idle_few = by (decision_on p idle)
     where
-      by : (c : Checked) → greetable p ≡ c →
-          Adds few s.chip (bind (outcome c s) (λ _ s₁. greets keep_puts s₁)).after.chip
-      by (Err e) h = quiet_few s.chip s.chip (nothing_added s.chip)
-      by (Ok u) h =
-          let live : p.blank ≡ false = grind arith in
-          let b = polled_begun Busy idled (idled_rests live) in
-          let o = calls.polled keep_puts Busy idled in
-          bind_any s.chip _ o (then_quiet s.chip idled.chip o.after.chip idle_few b.quiet) (λ v e.
-          let ready : Ready o.after.chip.pins = rw (b.ready v e).1 (ready_at idled.chip.pins (idled_rests live).live) in
-          then_quiet s.chip idled.chip _ idle_few (quiet_quiet idled.chip o.after.chip _ b.quiet (wds_quiet o.after.chip ready)))
+      by : (d : Decision) → few (decisions_with d []) ≡ true
+      by d = grind arith
 
-  pub call_few : (x : Call) → Adds few s.chip (performed keep_puts x s).after.chip
+  greet_few : IsFew p (samples_of Greet s)
+  unfolding stage_of samples_of run
+  greet_few =
+      let q = put_on p idle in
+      let first = (idle ∷ []) ++ polls q in
+      let last = run q (polls q) in
+      let rest_at : greetable p ≡ Ok tt → Rest q = λ h. let live : p.blank ≡ false = grind arith in idle-rests p live in
+      let polled : greetable p ≡ Ok tt → IsFew p first = λ h. few_then_quiet p (idle ∷ []) (polls q) idle_few (polls_quiet q (rest_at h)) in
+      at_stage_few (greetable p) (is_ready q) true p first (frame_on last instruction.Wds ++ []) polled
+      (λ h ready. let r : Ready last = subst Ready (sym (polled_ready q (rest_at h) ready)) (ready_at q (rest_at h).live) in
+      few_then_quiet p first (frame_on last instruction.Wds ++ []) (polled h) (quiet_quiet last (frame_on last instruction.Wds) [] (wds_quiet last r) (nothing_quiet _)))
+
+  pub call_few : (r : Request) → few (decisions_of s.chip.pins (samples_of r s)) ≡ true
   call_few Greet = greet_few
   call_few Settle = settle_few
-  call_few Open = turned_few true instruction.Wen
-  call_few Shut = turned_few false instruction.Wds
-  call_few (Read address) = fetched_few address 1
-  call_few (Run address count) = fetched_few address count
-  call_few (Write address value) = changed_few (instruction.Write address value)
-  call_few (Erase address) = changed_few (instruction.Erase address)
-  call_few (Fill value) = changed_few (instruction.Wrall value)
-  call_few Clear = changed_few instruction.Eral
+  call_few (Turn opened i) = turn_few opened i
+  call_few (Fetch address count) = fetch_few address count
+  call_few (Change i) = change_few i

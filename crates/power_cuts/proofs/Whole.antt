@@ -1,176 +1,140 @@
 -- A history, cut off after any sample.
-use Rattle.histories.proofs.Keeping.{end_keeps}
-use Rattle.std.proofs.Common.{◌≡◌, ℕ, zero, suc, ◌-◌, false, List, [], ◌∷◌, ◌++◌, length, take, refl, sym, ap, ◌∙◌, subst, inl, inr, arith, ◌+◌, ◌≤◌, ◌<◌}
-use Rattle.std.proofs.lemmas.Bool.{cases_lt}
-use Rattle.std.proofs.lemmas.List.{append-nil, take-append-le, take_all, length-append}
-use Rattle.std.proofs.Common.{append_assoc}
+use Rattle.std.proofs.Common.{◌≡◌, ℕ, zero, suc, ◌+◌, ◌-◌, ◌<◌, ◌≤◌, ◌⊎◌, Bool, true, false, List, [], ◌∷◌, ◌++◌, length, take, refl, sym, ap, ◌∙◌, subst, inl, inr, arith}
+use Rattle.std.specs.Prelude.{if◌then◌else◌, nat_lt}
+use Rattle.std.proofs.lemmas.Bool.{ltb-true}
+use Rattle.std.proofs.lemmas.Bool.Decides.{nat_tests}
+use Rattle.std.proofs.lemmas.List.{take-append-le, take_all, length-append}
+use Rattle.protocol.specs.declared.instruction.Instruction.TheVariants as instruction
 use Rattle.chips.specs.Pins.{Pins, Put}
 use Rattle.wire.specs.Runs.{run}
 use Rattle.wire.proofs.Keeping.{run_appends}
+use Rattle.wire.proofs.Tells.{told-pins}
+use Rattle.driver.specs.Cases.{samples_of}
 use Rattle.driver.specs.Outcome.{State, state}
+use Rattle.driver.proofs.Following.{by_stage, greet-by_stage, settle-by_stage, turned-by_stage, run_words-by_stage, changed-by_stage}
 use Rattle.decisions.proofs.Folding.{take_both}
 use Rattle.histories.specs.declared.call.Call.{Call}
+use Rattle.histories.specs.declared.call.Call.TheVariants.{Greet, Settle, Open, Shut, Read, Run, Write, Erase, Fill, Clear}
 use Rattle.histories.specs.Events.{performed, end_from, unseen, bare_chip}
 use Rattle.histories.proofs.Effects.{Sound, sound_new, sound_after}
-use Rattle.histories.proofs.Views.{events_by, views_do_not_matter}
-use Rattle.power_cuts.specs.Cuts.{keep_puts, unkept, PowerCuts}
-use Rattle.power_cuts.proofs.Few.{few, few_cut, Adds}
-use Rattle.power_cuts.proofs.Calls.{Driver, call_few}
+use Rattle.power_cuts.specs.Temporary.{request_of, samples_of_calls}
+use Rattle.power_cuts.proofs.Few.{few_cut}
+use Rattle.power_cuts.proofs.Calls.{call_few}
 
-abbrev bare : Driver → State (Unit {0})
-bare s = state s.greeted s.opened (bare_chip s.chip.pins)
+abbrev Driver : Type 0
+Driver = State (Unit {0})
 
--- a call on a chip that keeps its samples is the same call
-same_call : (x : Call) (s : Driver) → bare (performed keep_puts x s).after ≡ (performed unseen x (bare s)).after
-unfolding end_from
-same_call x s = (events_by (λ _. tt) keep_puts unseen (λ _ _ _. refl) (x ∷ []) s).1
+-- a call sends the samples of its request
+module _ {V : Type 0} (next : V → Pins → Put → V) where
+  pub performed-by_stage : (x : Call) (s : State V) → (performed next x s).after ≡ (by_stage next (request_of x) s).after
+  performed-by_stage Greet s = ap (λ o. o.after) (greet-by_stage next s)
+  performed-by_stage Settle s = ap (λ o. o.after) (settle-by_stage next s)
+  performed-by_stage Open s = ap (λ o. o.after) (turned-by_stage next true instruction.Wen s)
+  performed-by_stage Shut s = ap (λ o. o.after) (turned-by_stage next false instruction.Wds s)
+  performed-by_stage (Read address) s = ap (λ o. o.after) (run_words-by_stage next address 1 s)
+  performed-by_stage (Run address count) s = ap (λ o. o.after) (run_words-by_stage next address count s)
+  performed-by_stage (Write address value) s = ap (λ o. o.after) (changed-by_stage next (instruction.Write address value) s)
+  performed-by_stage (Erase address) s = ap (λ o. o.after) (changed-by_stage next (instruction.Erase address) s)
+  performed-by_stage (Fill value) s = ap (λ o. o.after) (changed-by_stage next (instruction.Wrall value) s)
+  performed-by_stage Clear s = ap (λ o. o.after) (changed-by_stage next instruction.Eral s)
 
-still_sound : (x : Call) (s : Driver) → Sound (bare s) → Sound (bare (performed keep_puts x s).after)
-still_sound x s h = subst Sound (sym (same_call x s)) (sound_after (bare s) h x)
+call_runs : (x : Call) (s : Driver) → (performed unseen x s).after.chip.pins ≡ run s.chip.pins (samples_of (request_of x) s)
+call_runs x s = ap (λ (t : Driver). t.chip.pins) (performed-by_stage unseen x s) ∙ told-pins unseen s.chip (samples_of (request_of x) s)
 
--- the samples kept, after some calls
-abbrev kept_by : List Call → Driver → ℕ
-kept_by calls s = length (end_from keep_puts calls s).chip.view
+-- How many calls are whole after k samples, from a driver on.
+unfoldable pub whole_of : List Call → Driver → ℕ → ℕ
+whole_of [] s k = 0
+whole_of (x ∷ xs) s k =
+    let n = length (samples_of (request_of x) s) in
+    if nat_lt k n then 0 else suc (whole_of xs (performed unseen x s).after (k - n))
 
-kept_more : (calls : List Call) (s : Driver) → length s.chip.view ≤ kept_by calls s
-kept_more calls s =
-    end_keeps keep_puts (λ x. length s.chip.view ≤ length x.view) (λ x y h. omega (arith, length-append x.view (y ∷ []))) calls s (omega arith)
+abbrev bytes_from : List Call → Driver → List ℕ
+bytes_from calls s = (end_from unseen calls s).chip.pins.machine.bytes
 
--- cut off after k samples, from a driver on
-record CutAt (calls : List Call) (s : Driver) (xs : List Put) (k : ℕ) : Type 0 where
-  pub n : ℕ
+pub record CutAt (calls : List Call) (s : Driver) (k n : ℕ) : Type 0 where
   pub within : n ≤ length calls
-  pub bytes : (run s.chip.pins (take k xs)).machine.bytes ≡ (end_from keep_puts (take n calls) s).chip.pins.machine.bytes
-  pub finished : (j : ℕ) → j ≤ length calls → kept_by (take j calls) s ≤ length s.chip.view + k → j ≤ n
-  pub begun : (m : ℕ) → n ≡ suc m → kept_by (take m calls) s ≤ length s.chip.view + k
-
-record Cuts (calls : List Call) (s : Driver) : Type 0 where
-  pub xs : List Put
-  pub view : (end_from keep_puts calls s).chip.view ≡ s.chip.view ++ xs
-  pub pins : (end_from keep_puts calls s).chip.pins ≡ run s.chip.pins xs
-  pub cut : (k : ℕ) → CutAt calls s xs k
+  pub come : length (samples_of_calls (take n calls) s) ≤ k
+  pub cut : n < length calls → k < length (samples_of_calls (take (suc n) calls) s)
+  pub bytes :
+      ((run s.chip.pins (take k (samples_of_calls calls s))).machine.bytes ≡ bytes_from (take n calls) s)
+      ⊎ ((n < length calls) × ((run s.chip.pins (take k (samples_of_calls calls s))).machine.bytes ≡ bytes_from (take (suc n) calls) s))
 
 take_none : (k : ℕ) → take {A = Put} k [] ≡ []
 take_none zero = refl
 take_none (suc k) = refl
 
-no_calls : (s : Driver) → Cuts [] s
-unfolding end_from run
-no_calls s = record {
-  xs = [];
-  view = sym (append-nil s.chip.view);
-  pins = refl;
-  cut = λ k. record {
-    n = 0;
-    within = omega arith;
-    bytes = ap (λ (zs : List Put). (run s.chip.pins zs).machine.bytes) (take_none k);
-    finished = λ j h g. omega arith;
-    begun = λ m e. absurd (omega arith);
-  };
+no_calls : (s : Driver) (k : ℕ) → CutAt [] s k 0
+unfolding samples_of_calls end_from run
+no_calls s k = record {
+  within = omega arith;
+  come = omega arith;
+  cut = λ h. absurd (omega arith);
+  bytes = inl (ap (λ (zs : List Put). (run s.chip.pins zs).machine.bytes) (take_none k));
 }
 
-module _ (x : Call) (xs : List Call) (s : Driver) (a : Adds few s.chip (performed keep_puts x s).after.chip) where
+module _ (x : Call) (xs : List Call) (s : Driver) (sound : Sound s) (k : ℕ) where
+  abbrev first : List Put
+  first = samples_of (request_of x) s
+
   abbrev t : Driver
-  t = (performed keep_puts x s).after
+  t = (performed unseen x s).after
 
-  longer : length t.chip.view ≡ length s.chip.view + length a.xs
-  longer = ap length a.view ∙ length-append s.chip.view a.xs
+  abbrev more : List Put
+  more = samples_of_calls xs t
 
-  -- within the first call: nothing is finished
-  module _ (ys : List Put) (k : ℕ) (h : k < length a.xs) where
-    same_first : take k (a.xs ++ ys) ≡ take k a.xs
-    same_first = take-append-le k a.xs ys (omega arith)
+  -- within the first call
+  module _ (h : k < length first) where
+    one_call : length (samples_of_calls (take 1 (x ∷ xs)) s) ≡ length first
+    unfolding samples_of_calls
+    one_call = length-append first [] ∙ omega arith
 
-    none_finished : (j : ℕ) → kept_by (take j (x ∷ xs)) s ≤ length s.chip.view + k → j ≤ 0
-    unfolding end_from
-    none_finished zero g = omega arith
-    none_finished (suc j) g = absurd (omega (arith, kept_more (take j xs) t, longer))
+    same_first : (run s.chip.pins (take k (first ++ more))).machine.bytes ≡ (run s.chip.pins (take k first)).machine.bytes
+    same_first = ap (λ (zs : List Put). (run s.chip.pins zs).machine.bytes) (take-append-le k first more (omega arith))
 
-    first_cut : CutAt (x ∷ xs) s (a.xs ++ ys) k
-    unfolding end_from
-    first_cut =
-        elim (few_cut s.chip.pins a.xs k a.passes) [
-          | inl old ↦ record {
-            n = 0;
-            within = omega arith;
-            bytes = ap (λ (zs : List Put). (run s.chip.pins zs).machine.bytes) same_first ∙ old;
-            finished = λ j _ g. none_finished j g;
-            begun = λ m e. absurd (omega arith);
-          }
-          | inr new ↦ record {
-            n = 1;
-            within = omega arith;
-            bytes =
-                ap (λ (zs : List Put). (run s.chip.pins zs).machine.bytes) same_first ∙ new ∙ ap (λ (o : Pins). o.machine.bytes) (sym a.pins);
-            finished = λ j _ g. omega (arith, none_finished j g);
-            begun = λ m e. let z : m ≡ 0 = omega arith in rw z (omega arith);
-          }
-        ]
-
-  -- past it
-  module _ (ys : List Put) (k : ℕ) (h : length a.xs ≤ k) (c : CutAt xs t ys (k - length a.xs)) where
-    past : take k (a.xs ++ ys) ≡ a.xs ++ take (k - length a.xs) ys
-    past = take_both k a.xs ys ∙ ap (λ (zs : List Put). zs ++ take (k - length a.xs) ys) (take_all k a.xs h)
-
-    past_finished : (j : ℕ) → j ≤ length (x ∷ xs) → kept_by (take j (x ∷ xs)) s ≤ length s.chip.view + k → j ≤ suc c.n
-    unfolding end_from
-    past_finished zero l g = omega arith
-    past_finished (suc j) l g = omega (arith, c.finished j (omega arith) (omega (arith, longer)))
-
-    past_begun : (m : ℕ) → suc c.n ≡ suc m → kept_by (take m (x ∷ xs)) s ≤ length s.chip.view + k
-    unfolding end_from
-    past_begun zero e = omega arith
-    past_begun (suc m) e = omega (arith, c.begun m (omega arith), longer)
-
-    past_cut : CutAt (x ∷ xs) s (a.xs ++ ys) k
-    unfolding end_from
-    past_cut = record {
-      n = suc c.n;
-      within = omega (arith, c.within);
+    none_whole : CutAt (x ∷ xs) s k 0
+    unfolding samples_of_calls end_from
+    none_whole = record {
+      within = omega arith;
+      come = omega arith;
+      cut = λ _. omega (arith, one_call);
       bytes =
-          ap (λ (zs : List Put). (run s.chip.pins zs).machine.bytes) past
-          ∙ ap (λ (o : Pins). o.machine.bytes) (run_appends s.chip.pins a.xs (take (k - length a.xs) ys))
-          ∙ ap (λ (o : Pins). (run o (take (k - length a.xs) ys)).machine.bytes) (sym a.pins)
-          ∙ c.bytes;
-      finished = past_finished;
-      begun = past_begun;
+          elim (few_cut s.chip.pins first k (call_few s sound (request_of x))) [
+            | inl old ↦ inl (same_first ∙ old)
+            | inr new ↦ inr (omega arith, same_first ∙ new ∙ ap (λ (o : Pins). o.machine.bytes) (sym (call_runs x s)))
+          ];
     }
 
-  one_more : Cuts xs t → Cuts (x ∷ xs) s
-  unfolding end_from
-  one_more c = record {
-    xs = a.xs ++ c.xs;
-    view = c.view ∙ ap (λ (v : List Put). v ++ c.xs) a.view ∙ append_assoc s.chip.view a.xs c.xs;
-    pins = c.pins ∙ ap (λ (o : Pins). run o c.xs) a.pins ∙ sym (run_appends s.chip.pins a.xs c.xs);
-    cut = λ k.
-        elim (cases_lt k (length a.xs)) [
-          | inl h ↦ first_cut c.xs k h
-          | inr h ↦ past_cut c.xs k h (c.cut (k - length a.xs))
-        ];
-  }
+  -- past it
+  module _ (h : length first ≤ k) (n : ℕ) (c : CutAt xs t (k - length first) n) where
+    past : (run s.chip.pins (take k (first ++ more))).machine.bytes ≡ (run t.chip.pins (take (k - length first) more)).machine.bytes
+    past =
+        ap (λ (zs : List Put). (run s.chip.pins zs).machine.bytes)
+        (take_both k first more ∙ ap (λ (zs : List Put). zs ++ take (k - length first) more) (take_all k first h))
+        ∙ ap (λ (o : Pins). o.machine.bytes) (run_appends s.chip.pins first (take (k - length first) more))
+        ∙ ap (λ (o : Pins). (run o (take (k - length first) more)).machine.bytes) (sym (call_runs x s))
 
-cuts : (calls : List Call) (s : Driver) → Sound (bare s) → Cuts calls s
-cuts [] s h = no_calls s
-cuts (x ∷ xs) s h = one_more x xs s (call_few s h x) (cuts xs (performed keep_puts x s).after (still_sound x s h))
+    first_whole : CutAt (x ∷ xs) s k (suc n)
+    unfolding samples_of_calls end_from
+    first_whole = record {
+      within = omega (arith, c.within);
+      come = omega (arith, c.come, length-append first (samples_of_calls (take n xs) t));
+      cut = λ g. omega (arith, c.cut (omega arith), length-append first (samples_of_calls (take (suc n) xs) t));
+      bytes =
+          elim c.bytes [
+            | inl old ↦ inl (past ∙ old)
+            | inr new ↦ inr (omega (arith, new.0), past ∙ new.1)
+          ];
+    }
 
-abbrev new : Pins → Driver
-new p = state false false (unkept p)
-
-pub power_cuts : PowerCuts
-power_cuts = record {
-  puts_are_run = λ calls p f.
-      let c = cuts calls (new p) (sound_new p f) in
-      ap (run p) c.view ∙ sym c.pins ∙ (views_do_not_matter keep_puts calls (unkept p)).1;
-  cuts_are_whole = λ calls p k f.
-      let c = cuts calls (new p) (sound_new p f) in
-      let m = c.cut k in
-      record {
-        n = m.n;
-        within = m.within;
-        bytes =
-            ap (λ (zs : List Put). (run p (take k zs)).machine.bytes) c.view ∙ m.bytes
-            ∙ ap (λ (o : Pins). o.machine.bytes) (views_do_not_matter keep_puts (take m.n calls) (unkept p)).1;
-        finished = λ j l g. m.finished j l (omega (arith, g));
-        begun = λ j e. omega (arith, m.begun j e);
-      };
-}
+pub cuts : (calls : List Call) (s : Driver) (k : ℕ) → Sound s → CutAt calls s k (whole_of calls s k)
+unfolding whole_of
+cuts [] s k sound = no_calls s k
+cuts (x ∷ xs) s k sound = by (nat_lt k n) refl (cuts xs (performed unseen x s).after (k - n) (sound_after s sound x))
+  where
+    n : ℕ
+    n = length (samples_of (request_of x) s)
+    rest : ℕ
+    rest = whole_of xs (performed unseen x s).after (k - n)
+    by : (b : Bool) → nat_lt k n ≡ b → CutAt xs (performed unseen x s).after (k - n) rest → CutAt (x ∷ xs) s k (if b then 0 else suc rest)
+    by true e c = none_whole x xs s sound k (ltb-true k n e)
+    by false e c = first_whole x xs s sound k (grind (arith, nat_tests)) rest c

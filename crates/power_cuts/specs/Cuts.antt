@@ -1,38 +1,25 @@
--- A power cut after any sample leaves the bytes as a whole number of calls leaves them.
-use Rattle.std.specs.Prelude.{◌≡◌, ℕ, suc, ◌≤◌, List, [], ◌∷◌, ◌++◌, length, take}
-use Rattle.chips.specs.Fitting.{Fitting}
+-- A supply that fails after so many samples of a history: which calls are whole, and what the bytes then are.
+use Rattle.std.specs.Prelude.{◌≡◌, ℕ, suc, ◌<◌, ◌≤◌, ◌⊎◌, false, List, length, take}
 use Rattle.chips.specs.Pins.{Pins, Put}
-use Rattle.chips.specs.Seen.{Seen}
-use Rattle.wire.specs.Runs.{run}
+use Rattle.driver.specs.Outcome.{state}
 use Rattle.histories.specs.declared.call.Call.{Call}
-use Rattle.histories.specs.Events.{end_of, end_on}
+use Rattle.histories.specs.Events.{bare_chip, end_on}
+use Rattle.power_cuts.specs.Temporary.{samples_of_calls}
 
--- a chip that keeps the samples put on it
-abbrev pub keep_puts : List Put → Pins → Put → List Put
-keep_puts v p x = v ++ (x ∷ [])
+-- the samples that the calls of a history put on a chip, from a new driver on
+abbrev pub samples_by : List Call → Pins → List Put
+samples_by calls p = samples_of_calls calls (state false false (bare_chip p))
 
-abbrev pub unkept : Pins → Seen (List Put)
-unkept p = record { view = []; pins = p }
+-- the bytes that the first n of the calls leave
+abbrev pub bytes_by : List Call → ℕ → Pins → List ℕ
+bytes_by calls n p = (end_on (take n calls) p).machine.bytes
 
--- the samples that the calls of a history put on a chip
-abbrev pub puts_on : List Call → Pins → List Put
-puts_on calls p = (end_of keep_puts calls (unkept p)).view
-
--- They lead to what the calls leave.
-abbrev pub PutsAreRun : Type 0
-PutsAreRun = (calls : List Call) (p : Pins) → Fitting p → run p (puts_on calls p) ≡ end_on calls p
-
--- After any k of them the bytes are those after the first n calls, for some n: every call all of whose samples came is among them, and at most one more.
-pub record Cut (calls : List Call) (p : Pins) (k : ℕ) : Type 0 where
-  pub n : ℕ
+-- After k samples n of the calls are whole: all their samples have come, and not all of those of the next call, if there is one.
+pub record AreWhole (calls : List Call) (p : Pins) (k n : ℕ) : Type 0 where
   pub within : n ≤ length calls
-  pub bytes : (run p (take k (puts_on calls p))).machine.bytes ≡ (end_on (take n calls) p).machine.bytes
-  pub finished : (j : ℕ) → j ≤ length calls → length (puts_on (take j calls) p) ≤ k → j ≤ n
-  pub begun : (m : ℕ) → n ≡ suc m → length (puts_on (take m calls) p) ≤ k
+  pub come : length (samples_by (take n calls) p) ≤ k
+  pub cut : n < length calls → k < length (samples_by (take (suc n) calls) p)
 
-abbrev pub CutsAreWhole : Type 0
-CutsAreWhole = (calls : List Call) (p : Pins) (k : ℕ) → Fitting p → Cut calls p k
-
-pub record PowerCuts : Type 0 where
-  pub puts_are_run : PutsAreRun
-  pub cuts_are_whole : CutsAreWhole
+-- The bytes are those that n calls leave, or those that one call more leaves.
+abbrev pub LeftByWhole : List Call → Pins → ℕ → List ℕ → Type 0
+LeftByWhole calls p n bytes = (bytes ≡ bytes_by calls n p) ⊎ ((n < length calls) × (bytes ≡ bytes_by calls (suc n) p))

