@@ -1,3 +1,4 @@
 pub mod Few
 pub mod Calls
 pub mod Whole
+pub mod Twins
