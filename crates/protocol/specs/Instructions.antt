@@ -1,5 +1,5 @@
 -- What the bits of an instruction say. They are a count and the number that they are in base two.
-use Rattle.std.specs.Prelude.{ℕ, ◌+◌, ◌-◌, ◌/◌, ◌%◌, ◌^◌, Bool, true, false, cond, List, ◌==◌, codes}
+use Rattle.std.specs.Prelude.{ℕ, ◌+◌, ◌-◌, ◌/◌, ◌%◌, ◌^◌, Bool, true, false, ◌&&◌, cond, if◌then◌else◌, List, ◌==◌, codes}
 use Rattle.protocol.specs.declared.instruction.Instruction.{Instruction}
 use Rattle.protocol.specs.declared.instruction.Instruction.TheVariants as instruction
 use Rattle.protocol.specs.declared.instruction.Kind.{Kind}
@@ -8,11 +8,12 @@ use Rattle.protocol.specs.declared.parts.Part.{Part}
 use Rattle.protocol.specs.declared.parts.Width.{Width}
 use Rattle.protocol.specs.Parts.{bits_of, cells_of, field_of}
 
--- the kind, by the opcode and the first two address bits
+-- the kind, by the opcode and, under opcode 00, the first two address bits
 abbrev pub kind_of : ℕ → ℕ → Kind
 kind_of opcode first =
-    cond (opcode == 2) Read (cond (opcode == 1) Write (cond (opcode == 3) Erase
-    (cond (first == 3) Wen (cond (first == 0) Wds (cond (first == 2) Eral Wrall)))))
+    if opcode == 2 then Read else if opcode == 1 then Write else if opcode == 3 then Erase
+    else if opcode == 0 && first == 3 then Wen else if opcode == 0 && first == 0 then Wds else if opcode == 0 && first == 2 then Eral
+    else Wrall
 
 -- its word in a listing
 abbrev pub kind_word : Kind → List ℕ

@@ -17,9 +17,10 @@ impl Kind {
             0b10 => Kind::Read,
             0b01 => Kind::Write,
             0b11 => Kind::Erase,
-            _ if first == 0b11 => Kind::Wen,
-            _ if first == 0b00 => Kind::Wds,
-            _ if first == 0b10 => Kind::Eral,
+            0b00 if first == 0b11 => Kind::Wen,
+            0b00 if first == 0b00 => Kind::Wds,
+            0b00 if first == 0b10 => Kind::Eral,
+            // 0b00 with 0b01, and numbers that no two bits make
             _ => Kind::Wrall,
         }
     }
