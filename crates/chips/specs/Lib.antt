@@ -1,4 +1,5 @@
 pub mod Control
+pub mod Levels
 pub mod Machine
 pub mod Fits
 pub mod Pins

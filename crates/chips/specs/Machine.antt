@@ -1,5 +1,5 @@
 -- The pin machine: a control, the bytes and DO.
-use Rattle.std.specs.Prelude.{ℕ, zero, suc, ◌+◌, ◌-◌, ◌*◌, ◌/◌, ◌%◌, ◌^◌, Bool, cond, List, [], ◌∷◌, ◌==◌, slice_index, slice_set}
+use Rattle.std.specs.Prelude.{ℕ, zero, suc, ◌+◌, ◌-◌, ◌*◌, ◌/◌, ◌%◌, ◌^◌, Bool, if◌then◌else◌, List, [], ◌∷◌, ◌==◌, slice_index, slice_set}
 use Rattle.protocol.specs.declared.instruction.Kind.{Kind}
 use Rattle.protocol.specs.declared.instruction.Kind.TheVariants.{Read, Write, Erase, Wen, Wds, Eral, Wrall}
 use Rattle.protocol.specs.declared.parts.Part.{Part}
@@ -17,12 +17,13 @@ use Rattle.chips.specs.declared.state.Verdict.TheVariants.{CarriedOut, Shut, Pro
 use Rattle.chips.specs.declared.state.Decision.{Decision}
 use Rattle.chips.specs.declared.state.Decision.TheVariants.{Nothing, Start, Address, Data, Instruction, WrongCount}
 use Rattle.chips.specs.Control.{Turn, turn, power_up}
+use Rattle.chips.specs.Levels.{low, high, high_impedance}
 
 pub record Machine : Type 0 where
   pub setup : Setup
   pub state : State
   pub bytes : List ℕ
-  -- DO: 0, 1, or 2 for high impedance
+  -- DO, as its level's number
   pub out : ℕ
 
 -- Cells: cell k is byte k at width 8, and bytes 2k (high) and 2k + 1 (low) at width 16.
@@ -68,9 +69,9 @@ written part WrongCount bytes = bytes
 abbrev pub data_bit : Width → ℕ → ℕ → ℕ
 data_bit width value next = (value / 2 ^ (bits_of width - 1 - next)) % 2
 
--- Rule 5. Outside reading DO is 2 with status off, else 0 while a cycle is under way, else 1.
+-- Rule 5. Outside reading DO is high impedance with status off, else low while a cycle is under way, else high.
 abbrev pub shown : Bool → ℕ → ℕ
-shown status left = cond status (cond (left == 0) 1 0) 2
+shown status left = if status then (if left == 0 then high else low) else high_impedance
 
 abbrev pub held : State → Phase → ℕ → ℕ
 held st Waiting out = shown st.status st.left
@@ -79,11 +80,11 @@ held st (Reading width cell next) out = out
 held st Spoiled out = shown st.status st.left
 held st Over out = shown st.status st.left
 
--- DO after a decision: 0 as a READ has its address, then the bits of the cell; in all else as it is held.
+-- DO after a decision: low as a READ has its address, then the bits of the cell; in all else as it is held.
 abbrev pub out_of : Decision → State → List ℕ → ℕ → ℕ
 out_of Nothing st bytes out = held st st.phase out
 out_of (Start width) st bytes out = held st st.phase out
-out_of (Address width cell) st bytes out = 0
+out_of (Address width cell) st bytes out = low
 out_of (Data width cell next) st bytes out = data_bit width (cell_value width bytes cell) next
 out_of (Instruction kind width cell value verdict) st bytes out = held st st.phase out
 out_of WrongCount st bytes out = held st st.phase out
@@ -111,4 +112,4 @@ outs m [] = []
 outs m (b ∷ bs) = (step m (levels b)).out ∷ outs (step m (levels b)) bs
 
 abbrev pub fresh_machine : Setup → List ℕ → Machine
-fresh_machine setup bytes = record { setup = setup; state = power_up; bytes = bytes; out = 2 }
+fresh_machine setup bytes = record { setup = setup; state = power_up; bytes = bytes; out = high_impedance }

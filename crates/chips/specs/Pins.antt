@@ -1,5 +1,5 @@
 -- The pin meaning of a chip: a machine whose ORG and PE are tied to a level, or a blank, which does nothing.
-use Rattle.std.specs.Prelude.{ℕ, Bool, true, cond}
+use Rattle.std.specs.Prelude.{ℕ, Bool, true, cond, if◌then◌else◌}
 use Rattle.protocol.specs.declared.parts.Part.{Part}
 use Rattle.protocol.specs.declared.parts.Part.TheVariants.{C46, C56, C66, C76, C86}
 use Rattle.protocol.specs.declared.sample.Sample.{Sample}
@@ -8,6 +8,7 @@ use Rattle.protocol.specs.declared.settings.Edition.TheVariants.{Fall, Clock}
 use Rattle.protocol.specs.declared.settings.Setup.{Setup}
 use Rattle.protocol.specs.Parts.{row_of}
 use Rattle.protocol.specs.Samples.{bit_of}
+use Rattle.chips.specs.Levels.{high_impedance}
 use Rattle.chips.specs.Machine.{Machine, step}
 
 pub record Pins : Type 0 where
@@ -38,7 +39,7 @@ blank_setup = record { part = C46; edition = Fall; cycles = record { write = 0; 
 
 -- DO, which a blank never drives
 abbrev pub do_of : Pins → ℕ
-do_of p = cond p.blank 2 p.machine.out
+do_of p = if p.blank then high_impedance else p.machine.out
 
 -- The levels that count: the 46 has ORG high and the fall edition PE high, whatever the straps.
 abbrev pub org_at : Part → Bool → Bool

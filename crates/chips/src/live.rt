@@ -2,6 +2,7 @@
 ghost use Rattle.std.specs.Prelude.{◌≡◌, true};
 ghost use Rattle.protocol.specs.Chosen.{is_offered};
 ghost use Rattle.chips.specs.Control.{power_up};
+ghost use Rattle.chips.specs.Levels.{high_impedance};
 ghost use Rattle.chips.specs.Pins.{org_at, pe_at};
 
 use crate::chip::HIGH_IMPEDANCE;
@@ -27,7 +28,7 @@ impl Live {
         requires { is_offered setup.part setup.edition ≡ true }
         ensures setup { result.control.setup ≡ setup }
         ensures state { result.control.state ≡ power_up }
-        ensures out { result.out ≡ 2 }
+        ensures out { result.out ≡ high_impedance }
         ensures org { result.straps.org ≡ org_at setup.part straps.org }
         ensures pe { result.straps.pe ≡ pe_at setup.edition straps.pe }
     {

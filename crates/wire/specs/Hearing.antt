@@ -1,8 +1,9 @@
 -- The words that a chip in the middle of a READ gives out under zero bits.
-use Rattle.std.specs.Prelude.{ℕ, zero, suc, ◌+◌, ◌*◌, ◌%◌, true, false, cond, List, [], ◌∷◌, ◌==◌}
+use Rattle.std.specs.Prelude.{ℕ, zero, suc, ◌+◌, ◌*◌, ◌%◌, true, false, if◌then◌else◌, List, [], ◌∷◌, ◌==◌}
 use Rattle.protocol.specs.declared.parts.Part.{Part}
 use Rattle.protocol.specs.declared.parts.Width.{Width}
 use Rattle.protocol.specs.Parts.{cells_of}
+use Rattle.chips.specs.Levels.{high}
 use Rattle.chips.specs.Machine.{cell_value}
 use Rattle.chips.specs.Pins.{Pins, put, put_on, do_of}
 use Rattle.wire.specs.Frames.{selected}
@@ -11,8 +12,9 @@ use Rattle.wire.specs.Frames.{selected}
 abbrev pub zero_bit : Pins → Pins
 zero_bit p = put_on (put_on p selected) (put true true false)
 
+-- the bit that a level of DO stands for
 abbrev pub level_of : ℕ → ℕ
-level_of out = cond (out == 1) 1 0
+level_of out = if out == high then 1 else 0
 
 -- n zero bits: DO is taken at each sample with SK high and joined to the bits before
 unfoldable pub heard : ℕ → ℕ → Pins → ℕ

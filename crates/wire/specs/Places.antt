@@ -9,6 +9,7 @@ use Rattle.chips.specs.declared.state.Decision.TheVariants.{Instruction}
 use Rattle.chips.specs.declared.state.Phase.TheVariants.{Waiting, Reading}
 use Rattle.chips.specs.declared.state.State.{State}
 use Rattle.chips.specs.Control.{is_clock_edition, verdict_of, obeyed}
+use Rattle.chips.specs.Levels.{low, high_impedance}
 use Rattle.chips.specs.Machine.{written}
 use Rattle.chips.specs.Pins.{Pins}
 
@@ -52,7 +53,7 @@ rest_state enabled left = record { enabled = enabled; left = left; status = fals
 
 -- the chip at rest, with so many samples left of a cycle
 abbrev pub resting : Pins → ℕ → Pins
-resting p left = placed p (rest_state p.machine.state.enabled left) p.machine.bytes 2
+resting p left = placed p (rest_state p.machine.state.enabled left) p.machine.bytes high_impedance
 
 -- what an instruction that is sent decides
 abbrev pub decided : Pins → Kind → ℕ → ℕ → Decision
@@ -69,9 +70,9 @@ abbrev pub carried_out : Pins → Kind → ℕ → ℕ → Pins
 carried_out p kind address value =
     let d = decided p kind address value in
     let st = obeyed p.machine.setup d (rest_state p.machine.state.enabled 0) in
-    placed p (rest_state st.enabled (since p st.left)) (written p.machine.setup.part d p.machine.bytes) 2
+    placed p (rest_state st.enabled (since p st.left)) (written p.machine.setup.part d p.machine.bytes) high_impedance
 
--- The first bit of a cell is next, and DO is 0.
+-- The first bit of a cell is next, and DO is low.
 abbrev pub reading : Pins → ℕ → Pins
 reading p address =
     placed p
@@ -82,4 +83,4 @@ reading p address =
       cs = true;
       sk = true;
       phase = Reading (width_on p) (address % cells_of p.machine.setup.part (width_on p)) 0;
-    }) p.machine.bytes 0
+    }) p.machine.bytes low

@@ -1,11 +1,12 @@
--- Polling: samples with CS alone high until DO is not 0, at most 4,096 of them, then rest.
+-- Polling: samples with CS alone high until DO is not low, at most 4,096 of them, then rest.
 use Rattle.std.specs.Prelude.{ℕ, zero, suc, Bool, true, false, cond, List, [], ◌∷◌, ◌++◌, ◌==◌}
+use Rattle.chips.specs.Levels.{low}
 use Rattle.chips.specs.Pins.{Pins, Put, put_on, do_of}
 use Rattle.wire.specs.Frames.{selected, rest}
 
 -- does the chip show busy at one more sample?
 abbrev pub shows_busy : Pins → Bool
-shows_busy p = do_of (put_on p selected) == 0
+shows_busy p = do_of (put_on p selected) == low
 
 -- the samples of at most n tries
 unfoldable pub tries : ℕ → Pins → List Put
