@@ -31,8 +31,9 @@ live_pins setup straps bytes =
       pe = pe_at setup.edition straps.pe;
     }
 
+-- A blank tells ORG and PE low.
 abbrev pub blank_pins : List ℕ → Pins
-blank_pins bytes = record { blank = true; machine = fresh_machine blank_setup bytes; org = true; pe = true }
+blank_pins bytes = record { blank = true; machine = fresh_machine blank_setup bytes; org = false; pe = false }
 
 abbrev pub powered_by : Result Setup Refusal → Straps → List ℕ → Pins
 powered_by (Ok setup) straps bytes = live_pins setup straps bytes
