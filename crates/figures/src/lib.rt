@@ -4,10 +4,12 @@
 ghost use Rattle.std.specs.Prelude.{◌≡◌, true};
 ghost use Rattle.figures.specs.Figures.{Figures};
 
-#[tactic(auto, using(crate::proofs::Computed::figures))]
-pub fn worked_figures() -> bool
+use chips::chip::Chip;
+
+// The figures that a driver has a part in are the same over any chip.
+pub fn worked_figures<C: Chip>() -> bool
     ensures answer { result ≡ true }
-    ensures figures { Figures }
+    ensures figures { Figures C.Chip.next }
 {
     true
 }
