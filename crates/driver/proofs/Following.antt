@@ -160,32 +160,66 @@ module _ {V : Type 0} (next : V → Pins → Put → V) where
       by_check (Err e) = refl
       by_check (Ok u) = by_ready u (is_ready s.chip.pins)
 
--- a call that comes to what its stage says
-follows : {C : Type 0} (g : Ghosts C) (r : Request) (before after : Driver C) (result : Checked) →
-    outcome result (held g after) ≡ by_stage g.next r (held g before) → Follows g r before after result
-follows g r before after result e =
-    record {
-      answer = ap (λ o. o.answer) e;
-      records = ap (λ o. (o.after.greeted, o.after.opened)) e;
-      sent = ap (λ o. o.after.chip) e;
-    }
+-- Of a driver, part by part.
+module _ {C : Type 0} (g : Ghosts C) (d : Driver C) where
+  answered : (r : Request) (o : Outcome g.View (Unit {0})) → o ≡ by_stage g.next r (held g d) → answer_of r (held g d) ≡ o.answer
+  answered r o e = ap (λ o. o.answer) (sym e)
 
-module _ {C : Type 0} (g : Ghosts C) (before after : Driver C) where
-  pub greet-follows : (result : Checked) → outcome result (held g after) ≡ calls.greet g.next (held g before) → Follows g Greet before after result
-  greet-follows result e = follows g Greet before after result (e ∙ greet-by_stage g.next (held g before))
+  recorded : (r : Request) (o : Outcome g.View (Unit {0})) → o ≡ by_stage g.next r (held g d) →
+      record_of r (held g d) ≡ (o.after.greeted, o.after.opened)
+  recorded r o e = ap (λ o. (o.after.greeted, o.after.opened)) (sym e)
 
-  pub settle-follows : (result : Checked) → outcome result (held g after) ≡ calls.settle g.next (held g before) → Follows g Settle before after result
-  settle-follows result e = follows g Settle before after result (e ∙ settle-by_stage g.next (held g before))
+  told_by : (r : Request) (o : Outcome g.View (Unit {0})) → o ≡ by_stage g.next r (held g d) →
+      told g.next (held g d).chip (samples_of r (held g d)) ≡ o.after.chip
+  told_by r o e = ap (λ o. o.after.chip) (sym e)
 
-  pub turned-follows : (opened : Bool) (i : Instruction) (result : Checked) →
-      outcome result (held g after) ≡ calls.turned g.next opened i (held g before) → Follows g (Turn opened i) before after result
-  turned-follows opened i result e = follows g (Turn opened i) before after result (e ∙ turned-by_stage g.next opened i (held g before))
+  pub answer_of-greet : answer_of Greet (held g d) ≡ (calls.greet g.next (held g d)).answer
+  answer_of-greet = answered Greet _ (greet-by_stage g.next (held g d))
 
-  pub run_words-follows : (address count : ℕ) (result : Checked) →
-      outcome result (held g after) ≡ run_words g.next address count (held g before) → Follows g (Fetch address count) before after result
-  run_words-follows address count result e =
-      follows g (Fetch address count) before after result (e ∙ run_words-by_stage g.next address count (held g before))
+  pub record_of-greet : let t = (calls.greet g.next (held g d)).after in record_of Greet (held g d) ≡ (t.greeted, t.opened)
+  record_of-greet = recorded Greet _ (greet-by_stage g.next (held g d))
 
-  pub changed-follows : (i : Instruction) (result : Checked) →
-      outcome result (held g after) ≡ calls.changed g.next i (held g before) → Follows g (Change i) before after result
-  changed-follows i result e = follows g (Change i) before after result (e ∙ changed-by_stage g.next i (held g before))
+  pub told-greet : told g.next (held g d).chip (samples_of Greet (held g d)) ≡ (calls.greet g.next (held g d)).after.chip
+  told-greet = told_by Greet _ (greet-by_stage g.next (held g d))
+
+  pub answer_of-settle : answer_of Settle (held g d) ≡ (calls.settle g.next (held g d)).answer
+  answer_of-settle = answered Settle _ (settle-by_stage g.next (held g d))
+
+  pub record_of-settle : let t = (calls.settle g.next (held g d)).after in record_of Settle (held g d) ≡ (t.greeted, t.opened)
+  record_of-settle = recorded Settle _ (settle-by_stage g.next (held g d))
+
+  pub told-settle : told g.next (held g d).chip (samples_of Settle (held g d)) ≡ (calls.settle g.next (held g d)).after.chip
+  told-settle = told_by Settle _ (settle-by_stage g.next (held g d))
+
+  pub answer_of-turn : (opened : Bool) (i : Instruction) → answer_of (Turn opened i) (held g d) ≡ (calls.turned g.next opened i (held g d)).answer
+  answer_of-turn opened i = answered (Turn opened i) _ (turned-by_stage g.next opened i (held g d))
+
+  pub record_of-turn : (opened : Bool) (i : Instruction) → let t = (calls.turned g.next opened i (held g d)).after in record_of (Turn opened i) (held g d) ≡ (t.greeted, t.opened)
+  record_of-turn opened i = recorded (Turn opened i) _ (turned-by_stage g.next opened i (held g d))
+
+  pub told-turn : (opened : Bool) (i : Instruction) → told g.next (held g d).chip (samples_of (Turn opened i) (held g d)) ≡ (calls.turned g.next opened i (held g d)).after.chip
+  told-turn opened i = told_by (Turn opened i) _ (turned-by_stage g.next opened i (held g d))
+
+  pub answer_of-fetch : (address count : ℕ) → answer_of (Fetch address count) (held g d) ≡ (run_words g.next address count (held g d)).answer
+  answer_of-fetch address count = answered (Fetch address count) _ (run_words-by_stage g.next address count (held g d))
+
+  pub record_of-fetch : (address count : ℕ) → let t = (run_words g.next address count (held g d)).after in record_of (Fetch address count) (held g d) ≡ (t.greeted, t.opened)
+  record_of-fetch address count = recorded (Fetch address count) _ (run_words-by_stage g.next address count (held g d))
+
+  pub told-fetch : (address count : ℕ) → told g.next (held g d).chip (samples_of (Fetch address count) (held g d)) ≡ (run_words g.next address count (held g d)).after.chip
+  told-fetch address count = told_by (Fetch address count) _ (run_words-by_stage g.next address count (held g d))
+
+  pub answer_of-change : (i : Instruction) → answer_of (Change i) (held g d) ≡ (calls.changed g.next i (held g d)).answer
+  answer_of-change i = answered (Change i) _ (changed-by_stage g.next i (held g d))
+
+  pub record_of-change : (i : Instruction) → let t = (calls.changed g.next i (held g d)).after in record_of (Change i) (held g d) ≡ (t.greeted, t.opened)
+  record_of-change i = recorded (Change i) _ (changed-by_stage g.next i (held g d))
+
+  pub told-change : (i : Instruction) → told g.next (held g d).chip (samples_of (Change i) (held g d)) ≡ (calls.changed g.next i (held g d)).after.chip
+  told-change i = told_by (Change i) _ (changed-by_stage g.next i (held g d))
+
+pub ruleset greeting = (answer_of-greet, record_of-greet, told-greet)
+pub ruleset settling = (answer_of-settle, record_of-settle, told-settle)
+pub ruleset turning = (answer_of-turn, record_of-turn, told-turn)
+pub ruleset fetching = (answer_of-fetch, record_of-fetch, told-fetch)
+pub ruleset changing = (answer_of-change, record_of-change, told-change)

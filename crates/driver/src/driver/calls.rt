@@ -1,8 +1,9 @@
 //! The ten calls.
-ghost use Rattle.std.specs.Prelude.{◌≡◌, length};
-ghost use Rattle.protocol.specs.declared.instruction.Instruction.TheVariants.{Write, Erase, Eral, Wrall};
+ghost use Rattle.std.specs.Prelude.{◌≡◌, true, false, length};
+ghost use Rattle.protocol.specs.declared.instruction.Instruction.TheVariants.{Write, Erase, Wen, Wds, Eral, Wrall};
 ghost use Rattle.driver.specs.Calls.{polled, open_chip, shut_chip, turned, changed};
 ghost use Rattle.driver.specs.Calls as calls;
+ghost use Rattle.driver.specs.Cases.{Greet, Settle, Turn, Fetch, Change, words_of, Follows, BusyIffLong};
 ghost use Rattle.driver.specs.Held.{held};
 ghost use Rattle.driver.specs.Outcome.{outcome};
 ghost use Rattle.driver.specs.Reads.{read_word, run_words, filled};
@@ -23,9 +24,10 @@ impl<C: Chip> Driver<C> {
     }
 
     // Brings a chip in any state to rest, shut for writing.
-    #[tactic(auto, using(wire::proofs::Tells::keeps))]
+    #[tactic(auto, using(wire::proofs::Tells::keeps, crate::proofs::Following::greeting))]
     pub fn greet(&mut self) -> Result<(), Refusal>
-        ensures { outcome result (held C.Chip self.new) ≡ calls.greet C.Chip.next (held C.Chip self.old) }
+        ensures outcome { outcome result (held C.Chip self.new) ≡ calls.greet C.Chip.next (held C.Chip self.old) }
+        ensures follows { Follows C.Chip Greet self.old self.new result }
     {
         let (organisation, _) = self.shape()?;
         idle(&mut self.chip);
@@ -37,8 +39,10 @@ impl<C: Chip> Driver<C> {
     }
 
     // Waits for the end of a programming cycle.
+    #[tactic(auto, using(crate::proofs::Following::settling))]
     pub fn settle(&mut self) -> Result<(), Refusal>
-        ensures { outcome result (held C.Chip self.new) ≡ calls.settle C.Chip.next (held C.Chip self.old) }
+        ensures outcome { outcome result (held C.Chip self.new) ≡ calls.settle C.Chip.next (held C.Chip self.old) }
+        ensures follows { Follows C.Chip Settle self.old self.new result }
     {
         // WDS has no input to judge
         self.admit(Instruction::Wds)?;
@@ -58,14 +62,18 @@ impl<C: Chip> Driver<C> {
     }
 
     // Opens the chip for changes.
+    #[tactic(auto, using(crate::proofs::Following::turning))]
     pub fn open(&mut self) -> Result<(), Refusal>
-        ensures { outcome result (held C.Chip self.new) ≡ open_chip C.Chip.next (held C.Chip self.old) }
+        ensures outcome { outcome result (held C.Chip self.new) ≡ open_chip C.Chip.next (held C.Chip self.old) }
+        ensures follows { Follows C.Chip (Turn true Wen) self.old self.new result }
     {
         self.turn(true, Instruction::Wen)
     }
 
+    #[tactic(auto, using(crate::proofs::Following::turning))]
     pub fn shut(&mut self) -> Result<(), Refusal>
-        ensures { outcome result (held C.Chip self.new) ≡ shut_chip C.Chip.next (held C.Chip self.old) }
+        ensures outcome { outcome result (held C.Chip self.new) ≡ shut_chip C.Chip.next (held C.Chip self.old) }
+        ensures follows { Follows C.Chip (Turn false Wds) self.old self.new result }
     {
         self.turn(false, Instruction::Wds)
     }
@@ -102,29 +110,37 @@ impl<C: Chip> Driver<C> {
         self.poll(Cause::Unfinished)
     }
 
+    #[tactic(auto, using(crate::proofs::Following::changing))]
     pub fn write(&mut self, address: u16, value: u16) -> Result<(), Refusal>
-        ensures { outcome result (held C.Chip self.new) ≡ changed C.Chip.next (Write address value) (held C.Chip self.old) }
+        ensures outcome { outcome result (held C.Chip self.new) ≡ changed C.Chip.next (Write address value) (held C.Chip self.old) }
+        ensures follows { Follows C.Chip (Change (Write address value)) self.old self.new result }
     {
         self.change(Instruction::Write { address, value })
     }
 
     // One cell to all ones.
+    #[tactic(auto, using(crate::proofs::Following::changing))]
     pub fn erase(&mut self, address: u16) -> Result<(), Refusal>
-        ensures { outcome result (held C.Chip self.new) ≡ changed C.Chip.next (Erase address) (held C.Chip self.old) }
+        ensures outcome { outcome result (held C.Chip self.new) ≡ changed C.Chip.next (Erase address) (held C.Chip self.old) }
+        ensures follows { Follows C.Chip (Change (Erase address)) self.old self.new result }
     {
         self.change(Instruction::Erase { address })
     }
 
     // Every cell to one value.
+    #[tactic(auto, using(crate::proofs::Following::changing))]
     pub fn fill(&mut self, value: u16) -> Result<(), Refusal>
-        ensures { outcome result (held C.Chip self.new) ≡ changed C.Chip.next (Wrall value) (held C.Chip self.old) }
+        ensures outcome { outcome result (held C.Chip self.new) ≡ changed C.Chip.next (Wrall value) (held C.Chip self.old) }
+        ensures follows { Follows C.Chip (Change (Wrall value)) self.old self.new result }
     {
         self.change(Instruction::Wrall { value })
     }
 
     // Every cell to all ones.
+    #[tactic(auto, using(crate::proofs::Following::changing))]
     pub fn clear(&mut self) -> Result<(), Refusal>
-        ensures { outcome result (held C.Chip self.new) ≡ changed C.Chip.next Eral (held C.Chip self.old) }
+        ensures outcome { outcome result (held C.Chip self.new) ≡ changed C.Chip.next Eral (held C.Chip self.old) }
+        ensures follows { Follows C.Chip (Change Eral) self.old self.new result }
     {
         self.change(Instruction::Eral)
     }
