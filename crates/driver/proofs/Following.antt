@@ -1,7 +1,7 @@
 -- Each of the five shapes of a call is what its stage says, and its chip went on by exactly its samples.
 use Rattle.std.proofs.Common.{◌≡◌, ℕ, Bool, true, false, List, [], ◌∷◌, ◌++◌, Ok, Err, Result, sym, refl, ap, ◌∙◌}
 use Rattle.std.specs.Prelude.{if◌then◌else◌}
-use Rattle.std.specs.Result.{result_and}
+use Rattle.std.proofs.lemmas.Bool.Decides.{nat_tests}
 use Rattle.std.proofs.lemmas.List.{append-nil}
 use Rattle.protocol.specs.declared.instruction.Instruction.{Instruction}
 use Rattle.protocol.specs.declared.instruction.Instruction.TheVariants.{Read, Wds}
@@ -13,11 +13,12 @@ use Rattle.wire.specs.Frames.{idle}
 use Rattle.wire.specs.Polling.{polls, is_ready}
 use Rattle.wire.specs.Runs.{run}
 use Rattle.wire.specs.Sent.{told}
+use Rattle.wire.proofs.Polls.{poll_ready_iff}
 use Rattle.wire.proofs.Tells.{told-append, told-pins}
 use Rattle.driver.specs.declared.driver.Driver.{Driver}
 use Rattle.driver.specs.Calls as calls
 use Rattle.driver.specs.Calls.{frame_on, found, as_done, filled_by}
-use Rattle.driver.specs.Cases.{Request, Greet, Settle, Turn, Fetch, Change, Stage, Refused, Polled, Started, Finished, stage_by, stage_of, answer_at, answer_of, is_finished, record_by, record_of, samples_at, samples_of, words_of, Follows}
+use Rattle.driver.specs.Cases.{Request, Greet, Settle, Turn, Fetch, Change, Stage, Refused, Polled, Started, Finished, stage_by, stage_of, answer_at, answer_of, is_finished, pins_after_first, record_by, record_of, samples_at, samples_of, words_of, Follows}
 use Rattle.driver.specs.Checks.{Checked, greetable, admitted, changeable}
 use Rattle.driver.specs.Held.{held}
 use Rattle.driver.specs.Outcome.{State, Outcome, state, outcome, bind, sent, noted}
@@ -140,7 +141,7 @@ module _ {V : Type 0} (next : V → Pins → Put → V) where
   -- the words of a fetch, and the caller's words after it
   pub fetched-words : (address count : ℕ) (s : State V) (old : List ℕ) →
       filled_by (calls.fetched next address count s).answer old ≡ if is_finished (stage_of (Fetch address count) s) then words_of address count s else old
-  unfolding stage_of run
+  unfolding stage_of words_of run
   fetched-words address count s old = by_check (admitted s.chip.pins s.greeted (Read address count))
     where
       words : List ℕ
@@ -218,8 +219,19 @@ module _ {C : Type 0} (g : Ghosts C) (d : Driver C) where
   pub told-change : (i : Instruction) → told g.next (held g d).chip (samples_of (Change i) (held g d)) ≡ (calls.changed g.next i (held g d)).after.chip
   told-change i = told_by (Change i) _ (changed-by_stage g.next i (held g d))
 
+  pub words_of-fetch : (address count : ℕ) → words_of address count (held g d) ≡ filled_by (calls.fetched g.next address count (held g d)).answer []
+  unfolding words_of
+  words_of-fetch address count = by (is_finished (stage_of (Fetch address count) (held g d))) ∙ sym (fetched-words g.next address count (held g d) [])
+    where
+      words : List ℕ
+      words = calls.words_on (pins_after_first (Fetch address count) (held g d).chip.pins) address count
+      by : (finished : Bool) → (if finished then words else []) ≡ (if finished then (if finished then words else []) else [])
+      by true = refl
+      by false = refl
+
 pub ruleset greeting = (answer_of-greet, record_of-greet, told-greet)
 pub ruleset settling = (answer_of-settle, record_of-settle, told-settle)
 pub ruleset turning = (answer_of-turn, record_of-turn, told-turn)
-pub ruleset fetching = (answer_of-fetch, record_of-fetch, told-fetch)
+pub ruleset fetching = (answer_of-fetch, record_of-fetch, told-fetch, words_of-fetch)
 pub ruleset changing = (answer_of-change, record_of-change, told-change)
+pub ruleset readiness = (poll_ready_iff, nat_tests)

@@ -131,7 +131,7 @@ samples_of r s =
     samples_at (stage_of r s) first (frame ++ second)
 
 -- the words that a fetch hands out: those that the chip gives after the first polling, if it is finished
-abbrev pub words_of : {V : Type 0} → ℕ → ℕ → State V → List ℕ
+unfoldable pub words_of : {V : Type 0} → ℕ → ℕ → State V → List ℕ
 words_of address count s =
     let r = Fetch address count in
     if is_finished (stage_of r s) then words_on (pins_after_first r s.chip.pins) address count else []

@@ -1,5 +1,6 @@
 //! The ten calls.
-ghost use Rattle.std.specs.Prelude.{◌≡◌, true, false, length};
+ghost use Rattle.std.specs.Prelude.{◌≡◌, true, false, [], ◌∷◌, length, Ok, IfOk, OnOk, OnErr};
+ghost use Rattle.std.specs.Result.{result_and};
 ghost use Rattle.protocol.specs.declared.instruction.Instruction.TheVariants.{Write, Erase, Wen, Wds, Eral, Wrall};
 ghost use Rattle.driver.specs.Calls.{polled, open_chip, shut_chip, turned, changed};
 ghost use Rattle.driver.specs.Calls as calls;
@@ -39,10 +40,11 @@ impl<C: Chip> Driver<C> {
     }
 
     // Waits for the end of a programming cycle.
-    #[tactic(auto, using(crate::proofs::Following::settling))]
+    #[tactic(auto, using(crate::proofs::Following::settling, crate::proofs::Following::readiness))]
     pub fn settle(&mut self) -> Result<(), Refusal>
         ensures outcome { outcome result (held C.Chip self.new) ≡ calls.settle C.Chip.next (held C.Chip self.old) }
         ensures follows { Follows C.Chip Settle self.old self.new result }
+        ensures busy { BusyIffLong (held C.Chip self.old) result }
     {
         // WDS has no input to judge
         self.admit(Instruction::Wds)?;
@@ -79,17 +81,20 @@ impl<C: Chip> Driver<C> {
     }
 
     // The word in one cell.
+    #[tactic(auto, using(crate::proofs::Following::fetching))]
     pub fn read(&mut self, address: u16) -> Result<u16, Refusal>
-        ensures { outcome result (held C.Chip self.new) ≡ read_word C.Chip.next address (held C.Chip self.old) }
+        ensures outcome { outcome result (held C.Chip self.new) ≡ read_word C.Chip.next address (held C.Chip self.old) }
+        ensures follows { Follows C.Chip (Fetch address 1) self.old self.new (result_and result (Ok tt)) }
+        ensures word { IfOk result (λ w. words_of address 1 (held C.Chip self.old) ≡ w ∷ []) }
     {
         let mut word = [0; 1];
         self.run(address, &mut word)?;
         Ok(word[0])
     }
 
-    // Fills the words from consecutive cells, with cell 0 after the last. A refusal leaves them as they are.
+    // Sends a READ of as many words as there is room for.
     #[tactic(auto, using(wire::proofs::Tells::keeps))]
-    pub fn run(&mut self, address: u16, words: &mut [u16]) -> Result<(), Refusal>
+    fn fetch(&mut self, address: u16, words: &mut [u16]) -> Result<(), Refusal>
         ensures gave { outcome result (held C.Chip self.new) ≡ run_words C.Chip.next address (length words.old) (held C.Chip self.old) }
         ensures words { words.new ≡ filled C.Chip.next address (length words.old) words.old (held C.Chip self.old) }
     {
@@ -97,6 +102,18 @@ impl<C: Chip> Driver<C> {
         self.poll(Cause::Busy)?;
         signals::fetch(&mut self.chip, organisation, address, words);
         Ok(())
+    }
+
+    // Fills the words from consecutive cells, with cell 0 after the last. A refusal leaves them as they are.
+    #[tactic(auto, using(crate::proofs::Following::fetching))]
+    pub fn run(&mut self, address: u16, words: &mut [u16]) -> Result<(), Refusal>
+        ensures gave { outcome result (held C.Chip self.new) ≡ run_words C.Chip.next address (length words.old) (held C.Chip self.old) }
+        ensures words { words.new ≡ filled C.Chip.next address (length words.old) words.old (held C.Chip self.old) }
+        ensures follows { Follows C.Chip (Fetch address (length words.old)) self.old self.new result }
+        ensures handed { OnOk result (words.new ≡ words_of address (length words.old) (held C.Chip self.old)) }
+        ensures untouched { OnErr result (words.new ≡ words.old) }
+    {
+        self.fetch(address, words)
     }
 
     // Sends an instruction that changes cells, and waits for the end of its cycle.
