@@ -10,6 +10,7 @@ be compared.
                                     how many samples it lasts; and a line
                                     `byte OFFSET VALUE` for each byte that is not
                                     255 at the end (all are 255 at first)
+    tools/reference.py cuts         what the program that cuts the supply must print
 
 The expected output of crates/list_cases is remade from its files with this
 reference:
@@ -360,10 +361,87 @@ def replay(file):
     return text + "".join(line + "\n" for line in lines)
 
 
+# ------------------------------------------------------------------ the driver
+
+
+class Driver:
+    """The calls of the driver on a machine at power-up, ORG and PE high, as far
+    as the programs need them. `sent` has every sample that they put."""
+
+    POLLS = 4096
+
+    def __init__(self, machine):
+        self.machine = machine
+        self.machine.width = 16
+        self.sent = []
+
+    def put(self, cs=0, sk=0, di=0):
+        self.sent.append(cs | sk << 1 | di << 2 | 0b11000)
+        self.machine.step(self.sent[-1])
+        return self.machine.do
+
+    def poll(self):
+        ready = any(self.put(cs=1) != LOW for _ in range(self.POLLS))
+        self.put()
+        return ready
+
+    def frame(self, bits):
+        self.put(cs=1)
+        for bit in "1" + bits:
+            self.put(cs=1, di=int(bit))
+            self.put(cs=1, sk=1, di=int(bit))
+        self.put(cs=1)
+        self.put()
+
+    def call(self, call):
+        """One call that is not refused, as its name and what it is given."""
+        name, *given = call.split()
+        size = self.machine.address_bits()
+        if name == "greet":
+            self.put()
+        assert self.poll()
+        if name in ("greet", "shut"):
+            self.frame("00" + "00" + "0" * (size - 2))
+        elif name == "open":
+            self.frame("00" + "11" + "0" * (size - 2))
+        elif name == "write":
+            address, value = (int(text) for text in given)
+            self.frame("01" + f"{address:0{size}b}" + f"{value:016b}")
+            assert self.poll()
+
+
+CUT_CALLS = ("greet", "open", "write 0 1000", "write 1 1001", "write 2 1002", "shut")
+CUT_STEP, CUT_MOST = 40, 560
+
+
+def cuts():
+    """A history on a 46 of the fall edition whose writes take 100 samples, with
+    the supply cut after so many of its samples."""
+    driver = Driver(Machine(46, FALL, (100, 0, 0)))
+    ends = []
+    for call in CUT_CALLS:
+        driver.call(call)
+        ends.append(len(driver.sent))
+    lines = ["a 46 of the fall edition powers up, all cells 65535; a write takes 100 samples"]
+    lines.append("cut whole cells 0 to 2, last whole call")
+    for cut in range(0, CUT_MOST + 1, CUT_STEP):
+        machine = Machine(46, FALL, (100, 0, 0))
+        for sample in driver.sent[:cut]:
+            machine.step(sample)
+        machine.width = 16
+        whole = sum(end <= cut for end in ends)
+        words = " ".join(str(machine.word(cell)) for cell in range(3))
+        lines.append(f"{cut} {whole} {words} {CUT_CALLS[whole - 1] if whole else '-'}")
+    return "".join(line + "\n" for line in lines)
+
+
 def main(arguments):
+    if arguments == ["cuts"]:
+        sys.stdout.write(cuts())
+        return
     commands = {"list": listing, "replay": replay}
     if len(arguments) != 2 or arguments[0] not in commands:
-        sys.exit("usage: reference.py list FILE | replay FILE")
+        sys.exit("usage: reference.py list FILE | replay FILE | cuts")
     with open(arguments[1], "rb") as source:
         file = source.read()
     sys.stdout.write(commands[arguments[0]](file))
