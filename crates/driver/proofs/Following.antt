@@ -18,7 +18,7 @@ use Rattle.wire.proofs.Tells.{told-append, told-pins}
 use Rattle.driver.specs.declared.driver.Driver.{Driver}
 use Rattle.driver.specs.Calls as calls
 use Rattle.driver.specs.Calls.{frame_on, found, as_done, filled_by}
-use Rattle.driver.specs.Cases.{Request, Greet, Settle, Turn, Fetch, Change, Stage, Refused, Polled, Started, Finished, stage_by, stage_of, answer_at, answer_of, is_finished, pins_after_first, record_by, record_of, samples_at, samples_of, words_of, Follows}
+use Rattle.driver.specs.Cases.{Request, Greet, Settle, Turn, Fetch, Change, Stage, Started, Finished, stage_by, stage_of, answer_at, answer_of, is_finished, pins_after_first, record_by, record_of, samples_at, samples_of, words_of}
 use Rattle.driver.specs.Checks.{Checked, greetable, admitted, changeable}
 use Rattle.driver.specs.Held.{held}
 use Rattle.driver.specs.Outcome.{State, Outcome, state, outcome, bind, sent, noted}
@@ -74,14 +74,18 @@ module _ {V : Type 0} (next : V → Pins → Put → V) where
     where
       first : List Put
       first = idle ∷ polls (put_on s.chip.pins idle)
+
       more : List Put
       more = frame_on (run s.chip.pins first) Wds ++ []
+
       after_polling : Unit {0} → State V → Outcome V (Unit {0})
       after_polling _ t = outcome (Ok tt) (noted true false (calls.sent_frame next Wds t))
+
       by_ready : (u : Unit {0}) (ready : Bool) →
           bind (outcome (found Busy ready) (sent next first s)) after_polling ≡ at_stage Greet s first more (stage_by (Ok u) ready true)
       by_ready u true = ap (λ t. outcome (Ok tt) (noted true false t)) (frame_last Wds first s)
       by_ready u false = refl
+
       by_check : (check : Checked) →
           bind (outcome check s) (λ _ t. bind (calls.polled next Busy (sent next (idle ∷ []) t)) after_polling)
           ≡ at_stage Greet s first more (stage_by check (is_ready (put_on s.chip.pins idle)) true)
@@ -94,9 +98,11 @@ module _ {V : Type 0} (next : V → Pins → Put → V) where
     where
       first : List Put
       first = polls s.chip.pins
+
       by_ready : (u : Unit {0}) (ready : Bool) → outcome (found Busy ready) (sent next first s) ≡ at_stage Settle s first [] (stage_by (Ok u) ready true)
       by_ready u true = ap (λ xs. outcome (Ok tt) (sent next xs s)) (sym (append-nil first))
       by_ready u false = refl
+
       by_check : (check : Checked) → calls.begun next check s ≡ at_stage Settle s first [] (stage_by check (is_ready s.chip.pins) true)
       by_check (Err e) = refl
       by_check (Ok u) = by_ready u (is_ready s.chip.pins)
@@ -125,14 +131,19 @@ module _ {V : Type 0} (next : V → Pins → Put → V) where
     where
       first : List Put
       first = polls s.chip.pins
+
       t : State V
       t = sent next first s
+
       frame : List Put
       frame = frame_on (run s.chip.pins first) i
+
       q : Pins
       q = run (run s.chip.pins first) frame
+
       at_second : (sent next frame t).chip.pins ≡ q
       at_second = told-pins next t.chip frame ∙ ap (λ x. run x frame) (told-pins next s.chip first)
+
       by : (ready : Bool) → outcome (found Unfinished ready) (sent next (first ++ (frame ++ polls q)) s)
           ≡ at_stage (Change i) s first (frame ++ polls q) (if ready then Finished else Started)
       by true = refl
@@ -146,14 +157,17 @@ module _ {V : Type 0} (next : V → Pins → Put → V) where
     where
       words : List ℕ
       words = calls.words_on (run s.chip.pins (polls s.chip.pins)) address count
+
       fetching : Unit {0} → State V → Outcome V (List ℕ)
       fetching _ t = outcome (Ok (calls.words_on t.chip.pins address count)) (calls.sent_frame next (Read address count) t)
+
       by_ready : (u : Unit {0}) (ready : Bool) →
           let stage = stage_by (Ok u) ready true in
           filled_by (bind (outcome (found Busy ready) (sent next (polls s.chip.pins) s)) fetching).answer old
           ≡ if is_finished stage then (if is_finished stage then words else []) else old
       by_ready u true = ap (λ x. calls.words_on x address count) (told-pins next s.chip (polls s.chip.pins))
       by_ready u false = refl
+
       by_check : (check : Checked) →
           let stage = stage_by check (is_ready s.chip.pins) true in
           filled_by (bind (calls.begun next check s) fetching).answer old
@@ -225,13 +239,19 @@ module _ {C : Type 0} (g : Ghosts C) (d : Driver C) where
     where
       words : List ℕ
       words = calls.words_on (pins_after_first (Fetch address count) (held g d).chip.pins) address count
+
       by : (finished : Bool) → (if finished then words else []) ≡ (if finished then (if finished then words else []) else [])
       by true = refl
       by false = refl
 
 pub ruleset greeting = (answer_of-greet, record_of-greet, told-greet)
+
 pub ruleset settling = (answer_of-settle, record_of-settle, told-settle)
+
 pub ruleset turning = (answer_of-turn, record_of-turn, told-turn)
+
 pub ruleset fetching = (answer_of-fetch, record_of-fetch, told-fetch, words_of-fetch)
+
 pub ruleset changing = (answer_of-change, record_of-change, told-change)
+
 pub ruleset readiness = (poll_ready_iff, nat_tests)

@@ -13,7 +13,7 @@ use Rattle.chips.specs.Machine.{cell_value, set_cell, fill_cells}
 use Rattle.chips.specs.Pins.{Pins}
 use Rattle.wire.specs.Hearing.{cells_from}
 use Rattle.wire.specs.Laws.{CellsFromLength, CellsFromAt, SetCellSame, SetCellOther}
-use Rattle.wire.specs.Laws.{FillCellsInside, CellsKeepLength, CellsKeepBytes}
+use Rattle.wire.specs.Laws.{FillCellsInside}
 
 pub some_bits : (width : Width) → 0 < bits_of width
 some_bits Eight = lit< tt
@@ -34,7 +34,8 @@ set-length : (width : Width) (k v : ℕ) (bytes : List ℕ) → length (set_cell
 set-length Eight k v bytes = simp length-set
 set-length Sixteen k v bytes = simp length-set
 
-pub cells_keep_length : CellsKeepLength
+pub cells_keep_length : (width : Width) (k v : ℕ) (bytes : List ℕ) →
+    (length (set_cell width k v bytes) ≡ length bytes) × (length (fill_cells width k v bytes) ≡ length bytes)
 cells_keep_length width k v bytes =
     (set-length width k v bytes, fill_keeps (λ bs. length bs ≡ length bytes) width v (λ j bs e. set-length width j v bs ∙ e) k bytes refl)
 
@@ -50,7 +51,8 @@ cell_set : (width : Width) (k v : ℕ) (bytes : List ℕ) → v ≤ ones_of widt
 cell_set Eight k v bytes h b = byte_set bytes k v (omega arith) b
 cell_set Sixteen k v bytes h b = byte_set _ (2 * k + 1) (v % 256) (omega arith) (byte_set bytes (2 * k) (v / 256) (omega arith) b)
 
-pub cells_keep_bytes : CellsKeepBytes
+pub cells_keep_bytes : (width : Width) (k v : ℕ) (bytes : List ℕ) → v ≤ ones_of width → are_bytes bytes ≡ true →
+    (are_bytes (set_cell width k v bytes) ≡ true) × (are_bytes (fill_cells width k v bytes) ≡ true)
 cells_keep_bytes width k v bytes h b =
     (cell_set width k v bytes h b, fill_keeps (λ bs. are_bytes bs ≡ true) width v (λ j bs c. cell_set width j v bs h c) k bytes b)
 

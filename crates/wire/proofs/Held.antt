@@ -1,7 +1,7 @@
 -- The laws of the wire together.
 use Rattle.wire.specs.Laws.{Laws}
 use Rattle.wire.proofs.Carrying.{frame_carries_out, read_opens_cell}
-use Rattle.wire.proofs.Cells.{cells_from-length, cells_from-at, set_cell_same, set_cell_other, fill_cells_inside, cells_keep_length, cells_keep_bytes}
+use Rattle.wire.proofs.Cells.{cells_from-length, cells_from-at, set_cell_same, set_cell_other, fill_cells_inside}
 use Rattle.wire.proofs.Hears.{heard_is_run, words_heard-more, read_answers_cells, read_rests}
 use Rattle.wire.proofs.Keeping.{put_keeps_fits}
 use Rattle.wire.proofs.Polls.{poll_ready_iff, poll_rests}
@@ -25,6 +25,4 @@ laws =
       set_cell_same = set_cell_same;
       set_cell_other = set_cell_other;
       fill_cells_inside = fill_cells_inside;
-      cells_keep_length = cells_keep_length;
-      cells_keep_bytes = cells_keep_bytes;
     }

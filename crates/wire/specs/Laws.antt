@@ -1,11 +1,11 @@
 -- What polling and frames do to a chip, over every part, width and edition.
-use Rattle.std.specs.Prelude.{◌≡◌, ℕ, ◌+◌, ◌-◌, ◌*◌, ◌%◌, ◌<◌, ◌≤◌, true, false, List, [], ◌∷◌, ◌++◌, length, ◌≢◌, nat_le, slice_index}
+use Rattle.std.specs.Prelude.{◌≡◌, ℕ, ◌+◌, ◌-◌, ◌*◌, ◌%◌, ◌<◌, ◌≤◌, false, List, [], ◌∷◌, ◌++◌, length, ◌≢◌, nat_le, slice_index}
 use Rattle.protocol.specs.declared.instruction.Kind.{Kind}
 use Rattle.protocol.specs.declared.parts.Part.{Part}
 use Rattle.protocol.specs.declared.parts.Width.{Width}
 use Rattle.protocol.specs.Parts.{bits_of, bytes_in, ones_of, cells_of}
 use Rattle.protocol.specs.Instructions.{is_read}
-use Rattle.chips.specs.Fitting.{are_bytes, Fits}
+use Rattle.chips.specs.Fitting.{Fits}
 use Rattle.chips.specs.Machine.{cell_value, set_cell, fill_cells}
 use Rattle.chips.specs.Pins.{Pins, Put, put_on}
 use Rattle.wire.specs.Frames.{idle, ending, plain_frame, read_opening, clocks}
@@ -81,16 +81,6 @@ abbrev pub FillCellsInside : Type 0
 FillCellsInside = (width : Width) (n v j : ℕ) (bytes : List ℕ) → n * bytes_in width ≤ length bytes → j < n → v ≤ ones_of width →
     cell_value width (fill_cells width n v bytes) j ≡ v
 
--- Setting or filling cells keeps the number of bytes.
-abbrev pub CellsKeepLength : Type 0
-CellsKeepLength = (width : Width) (k v : ℕ) (bytes : List ℕ) →
-    (length (set_cell width k v bytes) ≡ length bytes) × (length (fill_cells width k v bytes) ≡ length bytes)
-
--- Setting or filling cells at a value of the width keeps bytes below 256.
-abbrev pub CellsKeepBytes : Type 0
-CellsKeepBytes = (width : Width) (k v : ℕ) (bytes : List ℕ) → v ≤ ones_of width → are_bytes bytes ≡ true →
-    (are_bytes (set_cell width k v bytes) ≡ true) × (are_bytes (fill_cells width k v bytes) ≡ true)
-
 -- All of them together.
 pub record Laws : Type 0 where
   pub poll_ready_iff : PollReadyIff
@@ -108,5 +98,3 @@ pub record Laws : Type 0 where
   pub set_cell_same : SetCellSame
   pub set_cell_other : SetCellOther
   pub fill_cells_inside : FillCellsInside
-  pub cells_keep_length : CellsKeepLength
-  pub cells_keep_bytes : CellsKeepBytes

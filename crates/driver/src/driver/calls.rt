@@ -95,7 +95,7 @@ impl<C: Chip> Driver<C> {
     // Sends a READ of as many words as there is room for.
     #[tactic(auto, using(wire::proofs::Tells::keeps))]
     fn fetch(&mut self, address: u16, words: &mut [u16]) -> Result<(), Refusal>
-        ensures gave { outcome result (held C.Chip self.new) ≡ run_words C.Chip.next address (length words.old) (held C.Chip self.old) }
+        ensures outcome { outcome result (held C.Chip self.new) ≡ run_words C.Chip.next address (length words.old) (held C.Chip self.old) }
         ensures words { words.new ≡ filled C.Chip.next address (length words.old) words.old (held C.Chip self.old) }
     {
         let organisation = self.admit_read(address, words.len())?;
@@ -107,7 +107,7 @@ impl<C: Chip> Driver<C> {
     // Fills the words from consecutive cells, with cell 0 after the last. A refusal leaves them as they are.
     #[tactic(auto, using(crate::proofs::Following::fetching))]
     pub fn run(&mut self, address: u16, words: &mut [u16]) -> Result<(), Refusal>
-        ensures gave { outcome result (held C.Chip self.new) ≡ run_words C.Chip.next address (length words.old) (held C.Chip self.old) }
+        ensures outcome { outcome result (held C.Chip self.new) ≡ run_words C.Chip.next address (length words.old) (held C.Chip self.old) }
         ensures words { words.new ≡ filled C.Chip.next address (length words.old) words.old (held C.Chip self.old) }
         ensures follows { Follows C.Chip (Fetch address (length words.old)) self.old self.new result }
         ensures handed { OnOk result (words.new ≡ words_of address (length words.old) (held C.Chip self.old)) }
