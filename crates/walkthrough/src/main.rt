@@ -5,7 +5,7 @@
 use crate::recorder::perform_recorded;
 use crate::show::print_calls;
 use crate::task::TASK;
-use anyhow::anyhow;
+use anyhow::ensure;
 use chips::clock::ClockChip;
 use chips::fall::FallChip;
 use histories::both::{Trace, perform_on_both};
@@ -132,9 +132,7 @@ fn run(rt: &HostRuntime) -> anyhow::Result<()> {
     print_board(rt)?;
     perform_task(rt, &mut tape, &mut told)?;
     print_calls(rt, &TASK, told.answers.items(), told.words.items())?;
-    if tape.left() == 0 {
-        return Err(anyhow!("the tape is full"));
-    }
+    ensure!(tape.left() > 0, "the tape is full");
     replay_tape(rt, &told, tape.items())
 }
 
