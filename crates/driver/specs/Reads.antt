@@ -1,5 +1,6 @@
 -- The outcomes of a read and of a run.
-use Rattle.std.specs.Prelude.{ℕ, List}
+use Rattle.std.specs.Prelude.{◌≡◌, ℕ, List, length, Result}
+use Rattle.protocol.specs.declared.refusal.Refusal.{Refusal}
 use Rattle.chips.specs.Pins.{Pins, Put}
 use Rattle.driver.specs.Calls.{fetched, as_word, as_done, filled_by}
 use Rattle.driver.specs.Outcome.{State, Outcome, outcome}
@@ -14,3 +15,8 @@ module _ {V : Type 0} (next : V → Pins → Put → V) (address : ℕ) where
   -- the caller's words afterwards
   abbrev pub filled : ℕ → List ℕ → State V → List ℕ
   filled count old s = filled_by (fetched next address count s).answer old
+
+  -- what a run does with places that hold `old`: a driver goes from s to t, leaves these words and answers r
+  abbrev pub RunLeaves : List ℕ → State V → State V → List ℕ → Result (Unit {0}) Refusal → Type 0
+  RunLeaves old s t words r =
+      (outcome r t ≡ run_words (length old) s) × (words ≡ filled (length old) old s)

@@ -2,6 +2,7 @@
 mod calls;
 mod checks;
 mod chip;
+mod source;
 
 use chips::chip::Chip;
 

@@ -1,15 +1,17 @@
 -- Reads and runs put into the caller's list of words.
-use Rattle.std.proofs.Common.{◌≡◌, ℕ, zero, suc, ◌+◌, ◌≤◌, Bool, true, false, cond, List, [], ◌∷◌, length, take, drop, Ok, Err, Result, sym, refl, ap, ◌∙◌, add-zero, length-drop, length-take, arith}
-use Rattle.std.proofs.lemmas.List.{append-nil}
-use borrow.Rule.Slice.PartMut.{put_mid, put_same}
+use Rattle.std.proofs.Common.{◌≡◌, ℕ, zero, suc, ◌+◌, ◌≤◌, Bool, true, false, cond, List, [], ◌∷◌, length, take, Ok, Err, Result, refl, ap, ◌∙◌, arith}
 use Rattle.protocol.specs.declared.list.List.{List as Held}
 use Rattle.protocol.specs.declared.refusal.Refusal.{Refusal}
-use Rattle.protocol.specs.Lists.{items, room, Added, Adds}
-use Rattle.protocol.proofs.Adding.{put_over}
+use Rattle.protocol.specs.Lists.{free, room, has_places, Added, Adds, Extended, AddsFrom}
+use Rattle.protocol.proofs.Adding.{asked, unfilled, length-next}
+use Rattle.chips.specs.declared.chip.Chip.{Ghosts}
 use Rattle.chips.specs.Pins.{Pins, Put}
 use Rattle.wire.specs.Hearing.{words_heard, after_bits}
 use Rattle.driver.specs.Calls.{words_on, fetched, as_done, as_word, filled_by}
+use Rattle.driver.specs.declared.driver.Driver.{Driver}
+use Rattle.driver.specs.Held.{held}
 use Rattle.driver.specs.Outcome.{State, Outcome, outcome, then}
+use Rattle.driver.specs.Reads.{run_words, filled, RunLeaves}
 use Rattle.histories.specs.declared.call.Call.{Call}
 use Rattle.histories.specs.declared.call.Call.TheVariants.{Greet, Settle, Open, Shut, Read, Run, Write, Erase, Fill, Clear}
 use Rattle.histories.specs.Book.{is_done}
@@ -45,47 +47,32 @@ module _ {V : Type 0} (next : V → Pins → Put → V) where
   handed_count (Fill value) s = no_words _
   handed_count Clear s = no_words _
 
--- the list m is l as it was, or with the words behind its items
-module _ (l m : Held ℕ) (same : m.slice.ghost_name ≡ l.slice.ghost_name) where
-  kept_list : m.slice.now ≡ l.slice.now → m.count ≡ l.count → Added l [] m
-  kept_list e n =
+-- what a run that answers r has left in free places
+module _ (l m : Held ℕ) (n : ℕ) (h : l.count + n ≤ room l) where
+  left_by : (x : Result (List ℕ) Refusal) (r : Answer) (ys : List ℕ) → r ≡ as_done x → ys ≡ filled_by x (take n (free l)) → Extended l ys m r →
+      Added l (filled_by x []) m
+  left_by (Ok ws) r ys e f a = rw (e, f) at a
+  left_by (Err c) r ys e f a = unfilled l m n h (rw (e, f) at a)
+
+-- a run by a driver into the list
+module _ {C : Type 0} (g : Ghosts C) (address count : ℕ) (d e : Driver C) (l m : Held ℕ) (r : Answer) where
+  abbrev Leaves : List ℕ → Driver C → List ℕ → Answer → Type 0
+  Leaves old u ys q = RunLeaves g.next address old (held g d) (held g u) ys q
+
+  pub ran : l.count + count ≤ room l → AddsFrom Leaves (has_places l count) l count 0 d e m r →
+      PerformedOne g.next (Run address count) (held g d) (held g e) l m r
+  ran h a =
+      let next = g.next in
+      let s = held g d in
+      let f = asked Leaves l m count 0 d e r h a in
+      let long = length-next l m count h in
+      let gave : outcome r (held g e) ≡ run_words next address count s = rw long at f.leaves.0 in
+      let same : f.places ≡ filled next address count (take count (free l)) s = rw long at f.leaves.1 in
+      let done : r ≡ as_done (fetched next address count s).answer = ap (λ (y : Outcome g.View (Unit {0})). y.answer) gave in
       record {
-        adds = rw (e, n) (sym (append-nil (items l)));
-        past = rw (e, n);
-        counts = n ∙ sym (add-zero l.count);
-        same_room = ap length e;
-        same_slice = same;
-      }
-
-  grown_list : (ws ys : List ℕ) (j : ℕ) → j ≡ length ws → ys ≡ ws → l.count + length ws ≤ room l → m.slice.now ≡ put_mid l.count j l.slice.now ys →
-      m.count ≡ l.count + length ws → Added l ws m
-  grown_list ws ys j k f h e n =
-      let p = put_over l.slice.now ws ys l.count j k f h in
-      record { adds = rw (e, n) p.0; past = rw (e, n) p.1; counts = n; same_room = ap length e ∙ p.2; same_slice = same }
-
-  filled_list : (x : Result (List ℕ) Refusal) (count j : ℕ) (ys : List ℕ) → j ≡ count → l.count + count ≤ room l →
-      length (filled_by x []) ≡ cond (is_done (as_done x)) count 0 → ys ≡ filled_by x (take j (drop l.count l.slice.now)) →
-      m.slice.now ≡ put_mid l.count j l.slice.now ys → m.count ≡ cond (is_done (as_done x)) (l.count + count) l.count → Added l (filled_by x []) m
-  filled_list (Ok ws) count j ys k h many f e n = grown_list ws ys j (k ∙ sym many) f (rw many h) e (n ∙ rw many)
-  filled_list (Err r) count j ys k h many f e n = kept_list (e ∙ rw f (put_same l.count j l.slice.now)) n
-
--- a run that was performed on the free places
-module _ {V : Type 0} (next : V → Pins → Put → V) (address count j : ℕ) (s t : State V) (l m : Held ℕ) (r : Answer) (ys : List ℕ) where
-  pub ran : j ≡ count → l.count + count ≤ room l →
-      let old = take j (drop l.count l.slice.now) in
-      let o = fetched next address (length old) s in
-      outcome r t ≡ outcome (as_done o.answer) o.after → ys ≡ filled_by o.answer old → m.slice.ghost_name ≡ l.slice.ghost_name →
-      m.slice.now ≡ put_mid l.count j l.slice.now ys → m.count ≡ cond (is_done r) (l.count + count) l.count →
-      PerformedOne next (Run address count) s t l m r
-  ran k h gave f same e n =
-      let long : length (take j (drop l.count l.slice.now)) ≡ count = omega (arith, length-take j (drop l.count l.slice.now), length-drop l.count l.slice.now) in
-      let given = rw long at gave in
-      let o = fetched next address count s in
-      let a : r ≡ as_done o.answer = ap (λ (y : Outcome V (Unit {0})). y.answer) given in
-      record {
-        answer = a;
-        after = ap (λ (y : Outcome V (Unit {0})). y.after) given;
-        handed = filled_list l m same o.answer count j ys k h (handed_count next (Run address count) s) (rw long at f) e (rw a at n);
+        answer = done;
+        after = ap (λ (y : Outcome g.View (Unit {0})). y.after) gave;
+        handed = left_by l m count h _ r f.places done same f.extends;
       }
 
 -- one word that was read, and pushed

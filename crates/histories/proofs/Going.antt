@@ -1,10 +1,9 @@
 -- A list of calls, performed in a loop.
-use Rattle.std.proofs.Common.{◌≡◌, ℕ, ◌+◌, ◌-◌, ◌<◌, ◌≤◌, Bool, true, false, cond, List, [], ◌∷◌, ◌++◌, length, get_or, take, drop, Ok, Result, sym, refl, ap, ◌∙◌, append_assoc, arith, leb-true, le_refl, zero-le}
+use Rattle.std.proofs.Common.{◌≡◌, ℕ, ◌+◌, ◌-◌, ◌<◌, ◌≤◌, Bool, true, false, cond, List, [], ◌∷◌, ◌++◌, length, get_or, take, drop, Ok, Err, Result, sym, refl, ap, ◌∙◌, append_assoc, add-zero, arith, leb, leb-true, le-leb, le_refl, zero-le}
 use Rattle.std.proofs.lemmas.List.{append-nil, take_more, take_all}
 use Rattle.std.proofs.lemmas.Bool.{and_parts}
-use Rattle.protocol.specs.declared.list.List.{List as Held}
 use Rattle.protocol.specs.declared.refusal.Refusal.{Refusal}
-use Rattle.protocol.specs.Lists.{room, Added}
+use Rattle.protocol.specs.Lists.{room}
 use Rattle.protocol.proofs.Adding.{added_none, added_twice}
 use Rattle.chips.specs.Pins.{Pins, Put}
 use Rattle.chips.specs.Seen.{Seen}
@@ -16,7 +15,7 @@ use Rattle.histories.proofs.Views.{seen_by, events_by}
 use Rattle.histories.proofs.Keeping.{end_keeps}
 use Rattle.histories.proofs.Performs.{wanted_on}
 use Rattle.histories.proofs.Filling.{handed_count}
-use Rattle.histories.specs.Performing.{wanted_by, words_wanted, answers_in, words_in, has_room, PerformedOne, Performed, Performs}
+use Rattle.histories.specs.Performing.{wanted_by, words_wanted, answers_in, words_in, has_room, Performed, Performs, PerformsNext}
 
 -- one event more
 answers-more : (es : List Event) (e : Event) → answers_in (es ++ e ∷ []) ≡ answers_in es ++ e.answer ∷ []
@@ -32,6 +31,25 @@ words_more (x ∷ es) e = ap (λ (ws : List ℕ). x.words ++ ws) (words_more es 
 cond_most : (b : Bool) (n : ℕ) → cond b n 0 ≤ n
 cond_most true n = le_refl n
 cond_most false n = zero-le
+
+-- room for one call
+one_wanted : (x : Call) → words_wanted (x ∷ []) ≡ wanted_by x
+unfolding words_wanted
+one_wanted x = add-zero (wanted_by x)
+
+pub fits_next : (x : Call) (told : Told) → true ≡ has_room (x ∷ []) told → told.words.count + wanted_by x ≤ room told.words
+fits_next x told h =
+    let free = room told.words - told.words.count in
+    let w : words_wanted (x ∷ []) ≤ free =
+    leb-true (words_wanted (x ∷ [])) free (and_parts (leb 1 (room told.answers - told.answers.count)) _ (sym h)).1 in
+    omega (arith, w, one_wanted x, told.words.within)
+
+pub has_next : (x : Call) (told : Told) → told.answers.count + 1 ≤ room told.answers → told.words.count + wanted_by x ≤ room told.words →
+    has_room (x ∷ []) told ≡ true
+has_next x told a w =
+    let j : leb 1 (room told.answers - told.answers.count) ≡ true = le-leb _ _ (omega (arith, a)) in
+    let k : leb (words_wanted (x ∷ [])) (room told.words - told.words.count) ≡ true = le-leb _ _ (omega (arith, w, one_wanted x)) in
+    rw (j, k)
 
 module _ {V : Type 0} (next : V → Pins → Put → V) where
   end_more : (xs : List Call) (x : Call) (s : State V) → end_from next (xs ++ x ∷ []) s ≡ (performed next x (end_from next xs s)).after
@@ -68,32 +86,42 @@ module _ {V : Type 0} (next : V → Pins → Put → V) where
       }
 
   module _ (calls : List Call) (s t : State V) (old told : Told) (i : ℕ) (g : Going calls s t old told i) where
-    pub fits : (d : Call) → i < length calls → told.words.count + wanted_by (get_or calls i d) ≤ room told.words
-    fits d h = omega (arith, wanted_on calls i d h, g.words_fit)
+    pub fits : (d : Call) → i < length calls → has_room (get_or calls i d ∷ []) told ≡ true
+    fits d h = has_next _ told (omega (arith, h, g.answers_fit)) (omega (arith, wanted_on calls i d h, g.words_fit))
 
-    pub more : (d : Call) (u : State V) (answers : Held Answer) (words : Held ℕ) (r : Answer) → i < length calls →
-        PerformedOne next (get_or calls i d) t u told.words words r → Added told.answers (r ∷ []) answers →
-        Going calls s u old (record { answers = answers; words = words }) (i + 1)
-    more d u answers words r h one a =
+    -- there is room, so that the next call is performed
+    next_done : (d : Call) (u : State V) (new : Told) (r : Answer) → i < length calls →
+        PerformsNext next (has_room (get_or calls i d ∷ []) told) (get_or calls i d) t u told new r →
+        PerformsNext next true (get_or calls i d) t u told new r
+    next_done d u new r h n = rw (fits d h) at n
+
+    pub not_refused : (d : Call) (u : State V) (new : Told) (r : Answer) (e : Refusal) → i < length calls →
+        PerformsNext next (has_room (get_or calls i d ∷ []) told) (get_or calls i d) t u told new r → r ≡ Err e → ⊥
+    not_refused d u new r e h n k = let done = (next_done d u new r h n).0 in absurd cc
+
+    pub more : (d : Call) (u : State V) (new : Told) (r : Answer) → i < length calls →
+        PerformsNext next (has_room (get_or calls i d ∷ []) told) (get_or calls i d) t u told new r → Going calls s u old new (i + 1)
+    more d u new r h n =
         let x = get_or calls i d in
+        let one = next_done d u new r h n in
         let p = g.performed in
         let e : take (i + 1) calls ≡ take i calls ++ x ∷ [] = take_more calls i d h in
         let es = events_from next (take i calls) s in
         let at : performed next x (end_from next (take i calls) s) ≡ performed next x t = ap (performed next x) (sym p.ends) in
         let ev : events_from next (take i calls ++ x ∷ []) s ≡ es ++ event x (performed next x t) ∷ [] =
         events_more (take i calls) x s ∙ ap (λ (y : _). es ++ event x y ∷ []) at in
-        let rs : answers_in (events_from next (take i calls ++ x ∷ []) s) ≡ answers_in es ++ r ∷ [] =
-        ap answers_in ev ∙ answers-more es _ ∙ ap (λ (y : Answer). answers_in es ++ y ∷ []) (sym one.answer) in
+        let rs : answers_in (events_from next (take i calls ++ x ∷ []) s) ≡ answers_in es ++ (performed next x t).answer ∷ [] =
+        ap answers_in ev ∙ answers-more es _ in
         let ws : words_in (events_from next (take i calls ++ x ∷ []) s) ≡ words_in es ++ (performed next x t).words = ap words_in ev ∙ words_more es _ in
         record {
           performed =
               record {
-                ends = one.after ∙ ap (λ (y : _). y.after) (sym at) ∙ sym (end_more (take i calls) x s) ∙ ap (λ (xs : List Call). end_from next xs s) (sym e);
-                answered = rw (e, rs) (added_twice old.answers told.answers answers _ _ p.answered a);
-                handed = rw (e, ws) (added_twice old.words told.words words _ _ p.handed one.handed);
+                ends = one.1 ∙ ap (λ (y : _). y.after) (sym at) ∙ sym (end_more (take i calls) x s) ∙ ap (λ (xs : List Call). end_from next xs s) (sym e);
+                answered = rw (e, rs) (added_twice old.answers told.answers new.answers _ _ p.answered one.2);
+                handed = rw (e, ws) (added_twice old.words told.words new.words _ _ p.handed one.3);
               };
-          answers_fit = omega (arith, g.answers_fit, a.counts, a.same_room);
-          words_fit = omega (arith, wanted_on calls i d h, g.words_fit, one.handed.counts, one.handed.same_room, words_most x t);
+          answers_fit = omega (arith, g.answers_fit, one.2.counts, one.2.same_room);
+          words_fit = omega (arith, wanted_on calls i d h, g.words_fit, one.3.counts, one.3.same_room, words_most x t);
         }
 
     pub done : length calls ≤ i → Performed next calls s t old told

@@ -57,6 +57,14 @@ pub record Performed {V : Type 0} (next : V → Pins → Put → V) (calls : Lis
   pub answered : Added old.answers (answers_in (events_from next calls s)) new.answers
   pub handed : Added old.words (words_in (events_from next calls s)) new.words
 
+-- What one more call by a driver does: with room it is performed; without, nothing is done.
+abbrev pub PerformsNext : {V : Type 0} → (V → Pins → Put → V) → Bool → Call → State V → State V → Told → Told → Result (Unit {0}) Refusal → Type 0
+PerformsNext next true call s t old new r =
+    (r ≡ Ok tt) × (t ≡ (performed next call s).after) × Added old.answers ((performed next call s).answer ∷ []) new.answers
+    × Added old.words (performed next call s).words new.words
+PerformsNext next false call s t old new r =
+    (r ≡ Err (refusal NoRoom 0)) × (t ≡ s) × (new.answers ≡ old.answers) × (new.words ≡ old.words)
+
 -- What a whole call of `perform` does: with room all calls are performed by a new driver; without, nothing is done.
 abbrev pub Performs : {V : Type 0} → (V → Pins → Put → V) → Bool → List Call → Seen V → Seen V → Told → Told → Result (Unit {0}) Refusal → Type 0
 Performs next true calls chip chip' old new r =

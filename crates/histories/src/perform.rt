@@ -1,9 +1,9 @@
-//! A list of calls, performed by a new driver.
-ghost use Rattle.std.specs.Prelude.{◌≡◌, ◌+◌, ◌≤◌, true, length, Ok, nat_le};
+//! Calls performed by a driver: one call at a time, or a list of them by a new driver.
+ghost use Rattle.std.specs.Prelude.{◌≡◌, ◌+◌, ◌≤◌, true, [], ◌∷◌, length, Ok, nat_le};
 ghost use Rattle.protocol.specs.Lists.{room};
 ghost use Rattle.chips.specs.Seen.{seen};
 ghost use Rattle.driver.specs.Held.{held};
-ghost use Rattle.histories.specs.Performing.{wanted_by, words_wanted, has_room, Performed, PerformsOn, PerformedOne};
+ghost use Rattle.histories.specs.Performing.{wanted_by, words_wanted, has_room, Performed, PerformsOn, PerformsNext, PerformedOne};
 ghost use Rattle.histories.specs.Recorded.{BytesAccounted};
 ghost use Rattle.histories.specs.Told.{CountedTold, TruthfulTold, BelievedTold, BusyTold};
 
@@ -60,10 +60,7 @@ fn run_into<C: Chip>(
     requires { words.old.count + count ≤ room words.old }
     ensures { PerformedOne C.Chip.next (Call.Run address count) (held C.Chip driver.old) (held C.Chip driver.new) words.old words.new result }
 {
-    let end = words.count + count;
-    driver.run(address, &mut words.slice[words.count..end])?;
-    words.count = end;
-    Ok(())
+    words.extend_from(driver, address, count, 0)
 }
 
 // Any call, with its words added to the list.
@@ -90,6 +87,24 @@ fn perform_one<C: Chip>(
     }
 }
 
+// Performs one call by a driver that goes on: its answer, and the words that it hands out. Without room for an answer and for the most
+// words of the call nothing is done.
+#[tactic(auto, using(crate::proofs::Going::fits_next))]
+pub fn perform_next<C: Chip>(
+    driver: &mut Driver<C>,
+    call: Call,
+    told: &mut Told,
+) -> Result<(), Refusal>
+    ensures { PerformsNext C.Chip.next (has_room (call ∷ []) told.old) call (held C.Chip driver.old) (held C.Chip driver.new)
+        told.old told.new result }
+{
+    if !has_room(&[call], told) {
+        return Err(Cause::NoRoom.into());
+    }
+    let answer = perform_one(driver, call, &mut told.words);
+    told.answers.push(answer, 0)
+}
+
 fn perform_all<C: Chip>(
     driver: &mut Driver<C>,
     calls: &[Call],
@@ -100,8 +115,7 @@ fn perform_all<C: Chip>(
     ensures performed { Performed C.Chip.next calls.now (held C.Chip driver.old) (held C.Chip driver.new) told.old told.new }
 {
     for call in calls {
-        let answer = perform_one(driver, *call, &mut told.words);
-        told.answers.push(answer, 0)?;
+        perform_next(driver, *call, told)?;
     }
     Ok(())
 }

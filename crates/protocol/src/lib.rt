@@ -7,3 +7,4 @@ pub mod parts;
 pub mod refusal;
 pub mod sample;
 pub mod settings;
+pub mod source;

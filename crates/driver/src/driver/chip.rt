@@ -20,6 +20,13 @@ impl<C: Chip> Driver<C> {
         }
     }
 
+    // The chip as it stands, to look at.
+    pub fn get_ref(&self) -> &C
+        ensures { result.now ≡ self.now.chip }
+    {
+        &self.chip
+    }
+
     // The chip, given back.
     pub fn chip(self) -> C
         ensures { result ≡ self.chip }
