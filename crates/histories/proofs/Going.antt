@@ -90,7 +90,7 @@ module _ {V : Type 0} (next : V → Pins → Put → V) where
     fits d h = has_next _ told (omega (arith, h, g.answers_fit)) (omega (arith, wanted_on calls i d h, g.words_fit))
 
     -- there is room, so that the next call is performed
-    next_done : (d : Call) (u : State V) (new : Told) (r : Answer) → i < length calls →
+    pub next_done : (d : Call) (u : State V) (new : Told) (r : Answer) → i < length calls →
         PerformsNext next (has_room (get_or calls i d ∷ []) told) (get_or calls i d) t u told new r →
         PerformsNext next true (get_or calls i d) t u told new r
     next_done d u new r h n = rw (fits d h) at n

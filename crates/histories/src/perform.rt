@@ -30,7 +30,7 @@ fn words_fit(calls: &[Call], places: usize) -> bool
 }
 
 // Is there room for an answer to each call, and for the most words that they hand out?
-fn has_room(calls: &[Call], told: &Told) -> bool
+pub fn has_room(calls: &[Call], told: &Told) -> bool
     ensures { result ≡ has_room calls.now told.now }
 {
     calls.len() <= told.answers.left() && words_fit(calls, told.words.left())

@@ -2,3 +2,4 @@ pub mod Few
 pub mod Calls
 pub mod Whole
 pub mod Twins
+pub mod Counts

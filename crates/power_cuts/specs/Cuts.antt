@@ -1,5 +1,8 @@
 -- A supply that fails after so many samples of a history: which calls are whole, and what the bytes then are.
-use Rattle.std.specs.Prelude.{◌≡◌, ℕ, suc, ◌<◌, ◌≤◌, ◌⊎◌, false, List, length, take}
+use Rattle.std.specs.Prelude.{Bool, true, Err, Result, IsOkAnd, ◌≡◌, ℕ, suc, ◌<◌, ◌≤◌, ◌⊎◌, false, List, length, take}
+use Rattle.protocol.specs.declared.refusal.Cause.TheVariants.{NoRoom}
+use Rattle.protocol.specs.declared.refusal.Refusal.{Refusal}
+use Rattle.protocol.specs.Refusals.{refusal}
 use Rattle.chips.specs.Pins.{Pins, Put}
 use Rattle.driver.specs.Outcome.{state}
 use Rattle.histories.specs.declared.call.Call.{Call}
@@ -23,3 +26,8 @@ pub record AreWhole (calls : List Call) (p : Pins) (k n : ℕ) : Type 0 where
 -- The bytes are those that n calls leave, or those that one call more leaves.
 abbrev pub LeftByWhole : List Call → Pins → ℕ → List ℕ → Type 0
 LeftByWhole calls p n bytes = (bytes ≡ bytes_by calls n p) ⊎ ((n < length calls) × (bytes ≡ bytes_by calls (suc n) p))
+
+-- the answer: how many calls are whole after k samples, or a refusal without room for what the calls hand out
+abbrev pub CountsWhole : Bool → List Call → Pins → ℕ → Result ℕ Refusal → Type 0
+CountsWhole true calls p k r = IsOkAnd r (AreWhole calls p k)
+CountsWhole false calls p k r = r ≡ Err (refusal NoRoom 0)

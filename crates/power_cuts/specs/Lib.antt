@@ -1,3 +1,5 @@
 pub mod Cuts
 pub mod Temporary
 pub mod Twin
+pub mod Counting
+pub mod Standing
