@@ -18,7 +18,7 @@ use Rattle.histories.specs.Alike.{was_programming, first_cells}
 use Rattle.histories.specs.Laws.{Quiet, SameStart, Alike}
 use Rattle.histories.proofs.Handed.{events_length}
 use Rattle.histories.proofs.Cells.{all_cells, same_words}
-use Rattle.histories.proofs.Checks.{check_of, admitted_finds, SameFacts, same_at, same_check}
+use Rattle.histories.proofs.Checks.{check_of, request_of, admitted_finds, SameFacts, same_at, same_check}
 use Rattle.histories.proofs.Effects.{words_for, handed_by, Held, Sound, KeptBy, kept, sound_after, sound_new}
 use Rattle.histories.proofs.Sending.{Driver, words_in}
 use Rattle.histories.proofs.Keeping.{call_later}
@@ -49,7 +49,7 @@ module _ (p q : Pins) (k : Kin p q) (greeted : Bool) (same : greeted ≡ true �
       (same f.met ∙ sym (same_at (λ part width. all_cells part width bytes) p q facts))
       ∙ same_at (λ part width. cells_from part width bytes count address) p q facts
 
-  words_for_lem : (x : Call) (opened : Bool) → handed_by x p greeted opened ≡ cond (is_done (check_of x p greeted opened)) (words_for x q) []
+  words_for_lem : (x : Call) (opened : Bool) → handed_by x p greeted opened ≡ cond (is_done (check_of (request_of x) p greeted opened)) (words_for x q) []
   words_for_lem Greet opened = refl
   words_for_lem Settle opened = refl
   words_for_lem Open opened = refl
@@ -89,7 +89,7 @@ kin-after x s t one other k =
 module _ (x : Call) (s t : Driver) (y z : Yield (Unit {0})) (k : KeptBy x s y) (l : KeptBy x t z) (peers : Peers s t) where
   quiet_answer : (u : Driver) (v : Yield (Unit {0})) → KeptBy x u v → was_programming (event x v) ≡ false →
       let p = u.chip.pins in
-      (v.answer ≡ check_of x p u.greeted u.opened) × (v.words ≡ handed_by x p u.greeted u.opened)
+      (v.answer ≡ check_of (request_of x) p u.greeted u.opened) × (v.words ≡ handed_by x p u.greeted u.opened)
   quiet_answer u v kv quiet = elim kv.answer [ inl h ↦ absurd (both_ways _ quiet h.0) | inr h ↦ h ]
 
   same_answer : was_programming (event x y) ≡ false → was_programming (event x z) ≡ false → (y.answer ≡ z.answer) × (y.words ≡ z.words)
@@ -98,7 +98,7 @@ module _ (x : Call) (s t : Driver) (y z : Yield (Unit {0})) (k : KeptBy x s y) (
       let b = quiet_answer t z l other in
       let p = s.chip.pins in
       let q = t.chip.pins in
-      let c : check_of x p s.greeted s.opened ≡ check_of x q t.greeted t.opened =
+      let c : check_of (request_of x) p s.greeted s.opened ≡ check_of (request_of x) q t.greeted t.opened =
       same_check x p q s.greeted s.opened peers.kin.blank peers.kin.facts ∙ rw (peers.greeted, peers.opened) in (
         a.0 ∙ c ∙ sym b.0,
         a.1 ∙ words_for_lem p q peers.kin s.greeted peers.cells x s.opened ∙ ap (λ r. cond (is_done r) (words_for x q) []) c ∙ sym b.1,

@@ -14,7 +14,8 @@ use Rattle.chips.specs.Pins.{Pins, org_at, org_on, pe_on}
 use Rattle.wire.specs.Places.{width_on, Sendable}
 use Rattle.driver.specs.Checks.{cells_on, admitted, changeable}
 use Rattle.histories.specs.declared.call.Call.{Call}
-pub use Rattle.histories.specs.Busy.{check_of}
+pub use Rattle.driver.specs.Cases.{check_of}
+pub use Rattle.histories.specs.Requests.{request_of}
 use Rattle.histories.specs.Book.{is_unfinished}
 use Rattle.histories.specs.Alike.{is_programming}
 
@@ -44,7 +45,7 @@ sendable p address value h v =
     record { in_field = omega (arith, (agreed p.machine.setup.part (width_on p)).addressed); in_width = in_bits (width_on p) value v }
 
 -- a check never refuses a call as polling does
-pub check_early : (x : Call) (p : Pins) (greeted opened : Bool) (e : Refusal) → check_of x p greeted opened ≡ Err e →
+pub check_early : (x : Call) (p : Pins) (greeted opened : Bool) (e : Refusal) → check_of (request_of x) p greeted opened ≡ Err e →
     (is_programming e.cause ≡ false) × (is_unfinished e.cause ≡ false)
 check_early x p greeted opened e h = (grind arith, grind arith)
 
@@ -65,5 +66,5 @@ unfolding org_on
 same_at F p q f = rw (width_at p.machine.setup.part p.org, f.org, f.part, ← width_at q.machine.setup.part q.org)
 
 pub same_check : (x : Call) (p q : Pins) (greeted opened : Bool) → p.blank ≡ q.blank → (p.blank ≡ false → SameFacts p q) →
-    check_of x p greeted opened ≡ check_of x q greeted opened
+    check_of (request_of x) p greeted opened ≡ check_of (request_of x) q greeted opened
 same_check x p q greeted opened b same = elim (cases_Bool p.blank) [ inl h ↦ grind arith | inr h ↦ let s = same h in let w = same_at (λ _ width. width) p q s in grind arith ]

@@ -25,7 +25,7 @@ use Rattle.histories.specs.Book.{is_unfinished, is_done, is_accepted, changed_bo
 use Rattle.histories.specs.Alike.{is_programming, was_programming}
 use Rattle.histories.proofs.Cells.{all_cells, set_all, fill_all}
 use Rattle.histories.proofs.Views.{greeted, greets}
-use Rattle.histories.proofs.Checks.{check_of, Admitted, admitted_finds, changeable_finds, sendable, check_early}
+use Rattle.histories.proofs.Checks.{check_of, request_of, Admitted, admitted_finds, changeable_finds, sendable, check_early}
 use Rattle.histories.proofs.Keeping.{call_later}
 use Rattle.histories.proofs.Sending.{Driver, at, polled_ways, rest-placed, ready_at, frame_sent, words_in, fits-resting, words_read, read_sent}
 use Rattle.histories.proofs.Sending.{changed_bytes, change_carried, idle-resting, idle-sent}
@@ -48,7 +48,7 @@ words_for Clear p = []
 
 -- the words of a call that its check lets through
 abbrev pub handed_by : Call → Pins → Bool → Bool → List ℕ
-handed_by x p greeted opened = cond (is_done (check_of x p greeted opened)) (words_for x p) []
+handed_by x p greeted opened = cond (is_done (check_of (request_of x) p greeted opened)) (words_for x p) []
 
 -- what a call leaves as opened if done
 abbrev pub opened_by : Call → Bool → Bool
@@ -96,7 +96,7 @@ pub record Kept (a : Aim) (s : Driver) (y : Yield (Unit {0})) : Type 0 where
 abbrev pub KeptBy : Call → Driver → Yield (Unit {0}) → Type 0
 KeptBy x s y =
     let p = s.chip.pins in
-    Kept (aim x (check_of x p s.greeted s.opened) (words_for x p) (opened_by x s.opened) (changed_book (ones_of (width_on p)) x (cells_in p))) s y
+    Kept (aim x (check_of (request_of x) p s.greeted s.opened) (words_for x p) (opened_by x s.opened) (changed_book (ones_of (width_on p)) x (cells_in p))) s y
 
 none_first : (x : Call) (e : Refusal) (s : Driver) → first_book x (event x (yield (Err e) [] s)) ≡ None
 none_first x e s = grind arith
@@ -138,7 +138,7 @@ module _ (a : Aim) (s : Driver) where
   -- the check and the polling with which every call but greet begins; `finish` is the rest of it
   begun_kept : (finish : Outcome (Unit {0}) (Unit {0}) → Yield (Unit {0})) →
       ((e : Refusal) (t : Driver) → finish (outcome (Err e) t) ≡ yield (Err e) [] t) →
-      check_of a.call s.chip.pins s.greeted s.opened ≡ a.check → (a.check ≡ Ok tt → s.greeted ≡ true) → (s.greeted ≡ true → Held s) →
+      check_of (request_of a.call) s.chip.pins s.greeted s.opened ≡ a.check → (a.check ≡ Ok tt → s.greeted ≡ true) → (s.greeted ≡ true → Held s) →
       (a.check ≡ Ok tt → Held s → Kept a s (finish (outcome (Ok tt) (at s (resting s.chip.pins 0))))) →
       Kept a s (finish (calls.begun unseen a.check s))
   begun_kept finish stops is met held ready = by a.check refl
@@ -166,7 +166,7 @@ module _ (s : Driver) (sound : Sound s) where
       done-kept a s [] (resting pins 0) h (met h) refl (rest-placed pins _ _ _ k.rest.live) k.latch refl)
 
   turned-kept : (x : Call) (opens : Bool) (i : Instruction) → let check = admitted pins s.greeted i in
-      check_of x pins s.greeted s.opened ≡ check → is_read (kind_in i) ≡ false →
+      check_of (request_of x) pins s.greeted s.opened ≡ check → is_read (kind_in i) ≡ false →
       ((p : Pins) → let q = carried_out p (kind_in i) (address_in i) (value_in i) in
       (q.machine.state.enabled ≡ opens) × (q.machine.bytes ≡ p.machine.bytes)) →
       Kept (aim x check [] opens (cells_in pins)) s (plain (calls.turned unseen opens i s))
@@ -183,7 +183,7 @@ module _ (s : Driver) (sound : Sound s) where
       (ap (all_cells pins.machine.setup.part (width_on pins)) (turns q).1)))
 
   fetched-kept : (x : Call) (address count : ℕ) → let check = admitted pins s.greeted (instruction.Read address count) in
-      check_of x pins s.greeted s.opened ≡ check →
+      check_of (request_of x) pins s.greeted s.opened ≡ check →
       Kept (aim x check (words_in pins address count) s.opened (cells_in pins)) s (handed (calls.fetched unseen address count s))
   fetched-kept x address count is =
       let i = instruction.Read address count in
@@ -201,7 +201,7 @@ module _ (s : Driver) (sound : Sound s) where
       (words_read q address count ready (fits-resting pins (sound.fitting k.rest.live)) send f.address) ready.rest k.latch refl))
 
   changed-kept : (x : Call) (i : Instruction) (book : List ℕ) → let check = changeable pins s.greeted s.opened i in
-      check_of x pins s.greeted s.opened ≡ check → is_read (kind_in i) ≡ false → is_change (kind_in i) ≡ true →
+      check_of (request_of x) pins s.greeted s.opened ≡ check → is_read (kind_in i) ≡ false → is_change (kind_in i) ≡ true →
       (Fits pins → Admitted pins s.greeted i → all_cells pins.machine.setup.part (width_on pins) (changed_bytes pins i) ≡ book) →
       Kept (aim x check [] s.opened book) s (plain (calls.changed unseen i s))
   unfolding pe_on

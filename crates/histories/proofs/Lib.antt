@@ -1,6 +1,7 @@
 pub mod Views
 pub mod Cells
 pub mod Checks
+pub mod Requests
 pub mod Keeping
 pub mod Sending
 pub mod Effects
@@ -12,4 +13,5 @@ pub mod Performs
 pub mod Filling
 pub mod Going
 pub mod Carried
+pub mod Samples
 pub mod Recorded

@@ -97,7 +97,7 @@ module _ {V W : Type 0} (f : V → W) (next : V → Pins → Put → V) (less : 
       bind-by _ _ (λ _ s₁. polled-by Unfinished (calls.sent_frame next i s₁) ∙ ap (calls.polled less Unfinished) (frame_by i s₁)) _ _
       (begun-by (changeable s.chip.pins s.greeted s.opened i) s)
 
-  performed-by : (x : Call) (s : State V) → yield_by f (performed next x s) ≡ performed less x (state_by f s)
+  pub performed-by : (x : Call) (s : State V) → yield_by f (performed next x s) ≡ performed less x (state_by f s)
   performed-by Greet s = ap plain (greet-by s)
   performed-by Settle s = ap plain (begun-by (admitted s.chip.pins s.greeted instruction.Wds) s)
   performed-by Open s = ap plain (turned-by true instruction.Wen s)

@@ -3,7 +3,9 @@ pub mod Book
 pub mod Alike
 pub mod Performing
 pub mod Handed
+pub mod Requests
 pub mod Busy
+pub mod Samples
 pub mod Texts
 pub mod Laws
 pub mod Told

@@ -133,7 +133,6 @@ fn perform_in_room<C: Chip>(chip: &mut C, calls: &[Call], told: &mut Told) -> Re
 
 // Performs the calls with a new driver on the chip: an answer for each call, and the words that they hand out, one after the other.
 // Without room for all of them nothing is done.
-#[tactic(auto, using(crate::proofs::Recorded::recorded))]
 pub fn perform<C: Chip>(chip: &mut C, calls: &[Call], told: &mut Told) -> Result<(), Refusal>
     ensures performs { PerformsOn C.Chip calls.now chip.old chip.new told.old told.new result }
     ensures counted { result ≡ Ok tt → CountedTold C.Chip calls.now chip.old told.old told.new }

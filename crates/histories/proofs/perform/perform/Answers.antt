@@ -1,5 +1,6 @@
 use Rattle.histories.proofs.Carried.{truthful, believed, busy}
 use Rattle.histories.proofs.Handed.{tells, counts}
+use Rattle.histories.proofs.Recorded.{recorded}
 use Rattle.histories.proofs.perform.perform.Goals as goal
 
 pub returns-clause-truthful : goal.returns-clause-truthful
@@ -16,3 +17,6 @@ returns-clause-busy g c =
 
 pub returns-clause-counted : goal.returns-clause-counted
 returns-clause-counted g c = counts g.C.Chip.next c.args.calls.now _ _ _ _ _ _ c.perform_in_room.ensures
+
+pub returns-clause-recorded : goal.returns-clause-recorded
+returns-clause-recorded g c = recorded g.C.Chip.next _ c.args.calls.now _ _ _ _ _ c.perform_in_room.ensures
