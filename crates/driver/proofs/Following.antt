@@ -1,26 +1,21 @@
 -- Each of the five shapes of a call is what its stage says, and its chip went on by exactly its samples.
 use Rattle.std.proofs.Common.{◌≡◌, ℕ, Bool, true, false, List, [], ◌∷◌, ◌++◌, Ok, Err, Result, sym, refl, ap, ◌∙◌}
 use Rattle.std.specs.Prelude.{if◌then◌else◌}
-use Rattle.std.proofs.lemmas.Bool.Decides.{nat_tests}
 use Rattle.std.proofs.lemmas.List.{append-nil}
 use Rattle.protocol.specs.declared.instruction.Instruction.{Instruction}
 use Rattle.protocol.specs.declared.instruction.Instruction.TheVariants.{Read, Wds}
 use Rattle.protocol.specs.declared.refusal.Cause.TheVariants.{Busy, Unfinished}
 use Rattle.protocol.specs.declared.refusal.Refusal.{Refusal}
-use Rattle.chips.specs.declared.chip.Chip.{Ghosts}
 use Rattle.chips.specs.Pins.{Pins, Put, put_on}
 use Rattle.wire.specs.Frames.{idle}
 use Rattle.wire.specs.Polling.{polls, is_ready}
 use Rattle.wire.specs.Runs.{run}
 use Rattle.wire.specs.Sent.{told}
-use Rattle.wire.proofs.Polls.{poll_ready_iff}
 use Rattle.wire.proofs.Tells.{told-append, told-pins}
-use Rattle.driver.specs.declared.driver.Driver.{Driver}
 use Rattle.driver.specs.Calls as calls
-use Rattle.driver.specs.Calls.{frame_on, found, as_done, filled_by}
-use Rattle.driver.specs.Cases.{Request, Greet, Settle, Turn, Fetch, Change, Stage, Started, Finished, stage_by, stage_of, answer_at, answer_of, is_finished, pins_after_first, record_by, record_of, samples_at, samples_of, words_of}
+use Rattle.driver.specs.Calls.{frame_on, words_on, found, as_done, filled_by}
+use Rattle.driver.specs.Cases.{Request, Greet, Settle, Turn, Fetch, Change, Stage, Started, Finished, stage_by, stage_of, answer_at, answer_of, is_finished, record_by, record_of, samples_at, samples_of, words_of}
 use Rattle.driver.specs.Checks.{Checked, greetable, admitted, changeable}
-use Rattle.driver.specs.Held.{held}
 use Rattle.driver.specs.Outcome.{State, Outcome, state, outcome, bind, sent, noted}
 use Rattle.driver.specs.Reads.{run_words}
 
@@ -149,109 +144,28 @@ module _ {V : Type 0} (next : V → Pins → Put → V) where
       by true = refl
       by false = refl
 
-  -- the words of a fetch, and the caller's words after it
-  pub fetched-words : (address count : ℕ) (s : State V) (old : List ℕ) →
-      filled_by (calls.fetched next address count s).answer old ≡ if is_finished (stage_of (Fetch address count) s) then words_of address count s else old
+  -- the words that a fetch hands out
+  pub words_of-fetched : (address count : ℕ) (s : State V) → words_of address count s ≡ filled_by (calls.fetched next address count s).answer []
   unfolding stage_of words_of run
-  fetched-words address count s old = by_check (admitted s.chip.pins s.greeted (Read address count))
+  words_of-fetched address count s = by_check (admitted s.chip.pins s.greeted (Read address count))
     where
+      p : Pins
+      p = s.chip.pins
+
       words : List ℕ
-      words = calls.words_on (run s.chip.pins (polls s.chip.pins)) address count
+      words = words_on (run p (polls p)) address count
 
       fetching : Unit {0} → State V → Outcome V (List ℕ)
-      fetching _ t = outcome (Ok (calls.words_on t.chip.pins address count)) (calls.sent_frame next (Read address count) t)
+      fetching _ t = outcome (Ok (words_on t.chip.pins address count)) (calls.sent_frame next (Read address count) t)
 
       by_ready : (u : Unit {0}) (ready : Bool) →
-          let stage = stage_by (Ok u) ready true in
-          filled_by (bind (outcome (found Busy ready) (sent next (polls s.chip.pins) s)) fetching).answer old
-          ≡ if is_finished stage then (if is_finished stage then words else []) else old
-      by_ready u true = ap (λ x. calls.words_on x address count) (told-pins next s.chip (polls s.chip.pins))
+          (if is_finished (stage_by (Ok u) ready true) then words else [])
+          ≡ filled_by (bind (outcome (found Busy ready) (sent next (polls p) s)) fetching).answer []
+      by_ready u true = ap (λ x. words_on x address count) (sym (told-pins next s.chip (polls p)))
       by_ready u false = refl
 
       by_check : (check : Checked) →
-          let stage = stage_by check (is_ready s.chip.pins) true in
-          filled_by (bind (calls.begun next check s) fetching).answer old
-          ≡ if is_finished stage then (if is_finished stage then words else []) else old
+          (if is_finished (stage_by check (is_ready p) true) then words else [])
+          ≡ filled_by (bind (calls.begun next check s) fetching).answer []
       by_check (Err e) = refl
-      by_check (Ok u) = by_ready u (is_ready s.chip.pins)
-
--- Of a driver, part by part.
-module _ {C : Type 0} (g : Ghosts C) (d : Driver C) where
-  answered : (r : Request) (o : Outcome g.View (Unit {0})) → o ≡ by_stage g.next r (held g d) → answer_of r (held g d) ≡ o.answer
-  answered r o e = ap (λ o. o.answer) (sym e)
-
-  recorded : (r : Request) (o : Outcome g.View (Unit {0})) → o ≡ by_stage g.next r (held g d) →
-      record_of r (held g d) ≡ (o.after.greeted, o.after.opened)
-  recorded r o e = ap (λ o. (o.after.greeted, o.after.opened)) (sym e)
-
-  told_by : (r : Request) (o : Outcome g.View (Unit {0})) → o ≡ by_stage g.next r (held g d) →
-      told g.next (held g d).chip (samples_of r (held g d)) ≡ o.after.chip
-  told_by r o e = ap (λ o. o.after.chip) (sym e)
-
-  pub answer_of-greet : answer_of Greet (held g d) ≡ (calls.greet g.next (held g d)).answer
-  answer_of-greet = answered Greet _ (greet-by_stage g.next (held g d))
-
-  pub record_of-greet : let t = (calls.greet g.next (held g d)).after in record_of Greet (held g d) ≡ (t.greeted, t.opened)
-  record_of-greet = recorded Greet _ (greet-by_stage g.next (held g d))
-
-  pub told-greet : told g.next (held g d).chip (samples_of Greet (held g d)) ≡ (calls.greet g.next (held g d)).after.chip
-  told-greet = told_by Greet _ (greet-by_stage g.next (held g d))
-
-  pub answer_of-settle : answer_of Settle (held g d) ≡ (calls.settle g.next (held g d)).answer
-  answer_of-settle = answered Settle _ (settle-by_stage g.next (held g d))
-
-  pub record_of-settle : let t = (calls.settle g.next (held g d)).after in record_of Settle (held g d) ≡ (t.greeted, t.opened)
-  record_of-settle = recorded Settle _ (settle-by_stage g.next (held g d))
-
-  pub told-settle : told g.next (held g d).chip (samples_of Settle (held g d)) ≡ (calls.settle g.next (held g d)).after.chip
-  told-settle = told_by Settle _ (settle-by_stage g.next (held g d))
-
-  pub answer_of-turn : (opened : Bool) (i : Instruction) → answer_of (Turn opened i) (held g d) ≡ (calls.turned g.next opened i (held g d)).answer
-  answer_of-turn opened i = answered (Turn opened i) _ (turned-by_stage g.next opened i (held g d))
-
-  pub record_of-turn : (opened : Bool) (i : Instruction) → let t = (calls.turned g.next opened i (held g d)).after in record_of (Turn opened i) (held g d) ≡ (t.greeted, t.opened)
-  record_of-turn opened i = recorded (Turn opened i) _ (turned-by_stage g.next opened i (held g d))
-
-  pub told-turn : (opened : Bool) (i : Instruction) → told g.next (held g d).chip (samples_of (Turn opened i) (held g d)) ≡ (calls.turned g.next opened i (held g d)).after.chip
-  told-turn opened i = told_by (Turn opened i) _ (turned-by_stage g.next opened i (held g d))
-
-  pub answer_of-fetch : (address count : ℕ) → answer_of (Fetch address count) (held g d) ≡ (run_words g.next address count (held g d)).answer
-  answer_of-fetch address count = answered (Fetch address count) _ (run_words-by_stage g.next address count (held g d))
-
-  pub record_of-fetch : (address count : ℕ) → let t = (run_words g.next address count (held g d)).after in record_of (Fetch address count) (held g d) ≡ (t.greeted, t.opened)
-  record_of-fetch address count = recorded (Fetch address count) _ (run_words-by_stage g.next address count (held g d))
-
-  pub told-fetch : (address count : ℕ) → told g.next (held g d).chip (samples_of (Fetch address count) (held g d)) ≡ (run_words g.next address count (held g d)).after.chip
-  told-fetch address count = told_by (Fetch address count) _ (run_words-by_stage g.next address count (held g d))
-
-  pub answer_of-change : (i : Instruction) → answer_of (Change i) (held g d) ≡ (calls.changed g.next i (held g d)).answer
-  answer_of-change i = answered (Change i) _ (changed-by_stage g.next i (held g d))
-
-  pub record_of-change : (i : Instruction) → let t = (calls.changed g.next i (held g d)).after in record_of (Change i) (held g d) ≡ (t.greeted, t.opened)
-  record_of-change i = recorded (Change i) _ (changed-by_stage g.next i (held g d))
-
-  pub told-change : (i : Instruction) → told g.next (held g d).chip (samples_of (Change i) (held g d)) ≡ (calls.changed g.next i (held g d)).after.chip
-  told-change i = told_by (Change i) _ (changed-by_stage g.next i (held g d))
-
-  pub words_of-fetch : (address count : ℕ) → words_of address count (held g d) ≡ filled_by (calls.fetched g.next address count (held g d)).answer []
-  unfolding words_of
-  words_of-fetch address count = by (is_finished (stage_of (Fetch address count) (held g d))) ∙ sym (fetched-words g.next address count (held g d) [])
-    where
-      words : List ℕ
-      words = calls.words_on (pins_after_first (Fetch address count) (held g d).chip.pins) address count
-
-      by : (finished : Bool) → (if finished then words else []) ≡ (if finished then (if finished then words else []) else [])
-      by true = refl
-      by false = refl
-
-pub ruleset greeting = (answer_of-greet, record_of-greet, told-greet)
-
-pub ruleset settling = (answer_of-settle, record_of-settle, told-settle)
-
-pub ruleset turning = (answer_of-turn, record_of-turn, told-turn)
-
-pub ruleset fetching = (answer_of-fetch, record_of-fetch, told-fetch, words_of-fetch)
-
-pub ruleset changing = (answer_of-change, record_of-change, told-change)
-
-pub ruleset readiness = (poll_ready_iff, nat_tests)
+      by_check (Ok u) = by_ready u (is_ready p)

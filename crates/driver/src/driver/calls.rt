@@ -25,7 +25,7 @@ impl<C: Chip> Driver<C> {
     }
 
     // Brings a chip in any state to rest, shut for writing.
-    #[tactic(auto, using(wire::proofs::Tells::keeps, crate::proofs::Following::greeting))]
+    #[tactic(auto, using(wire::proofs::Tells::keeps, crate::proofs::Parts::greeting))]
     pub fn greet(&mut self) -> Result<(), Refusal>
         ensures outcome { outcome result (held C.Chip self.new) ≡ calls.greet C.Chip.next (held C.Chip self.old) }
         ensures follows { Follows C.Chip Greet self.old self.new result }
@@ -40,7 +40,7 @@ impl<C: Chip> Driver<C> {
     }
 
     // Waits for the end of a programming cycle.
-    #[tactic(auto, using(crate::proofs::Following::settling, crate::proofs::Following::readiness))]
+    #[tactic(auto, using(crate::proofs::Parts::settling, crate::proofs::Parts::readiness))]
     pub fn settle(&mut self) -> Result<(), Refusal>
         ensures outcome { outcome result (held C.Chip self.new) ≡ calls.settle C.Chip.next (held C.Chip self.old) }
         ensures follows { Follows C.Chip Settle self.old self.new result }
@@ -64,7 +64,7 @@ impl<C: Chip> Driver<C> {
     }
 
     // Opens the chip for changes.
-    #[tactic(auto, using(crate::proofs::Following::turning))]
+    #[tactic(auto, using(crate::proofs::Parts::turning))]
     pub fn open(&mut self) -> Result<(), Refusal>
         ensures outcome { outcome result (held C.Chip self.new) ≡ open_chip C.Chip.next (held C.Chip self.old) }
         ensures follows { Follows C.Chip (Turn true Wen) self.old self.new result }
@@ -72,7 +72,7 @@ impl<C: Chip> Driver<C> {
         self.turn(true, Instruction::Wen)
     }
 
-    #[tactic(auto, using(crate::proofs::Following::turning))]
+    #[tactic(auto, using(crate::proofs::Parts::turning))]
     pub fn shut(&mut self) -> Result<(), Refusal>
         ensures outcome { outcome result (held C.Chip self.new) ≡ shut_chip C.Chip.next (held C.Chip self.old) }
         ensures follows { Follows C.Chip (Turn false Wds) self.old self.new result }
@@ -81,7 +81,7 @@ impl<C: Chip> Driver<C> {
     }
 
     // The word in one cell.
-    #[tactic(auto, using(crate::proofs::Following::fetching))]
+    #[tactic(auto, using(crate::proofs::Parts::fetching))]
     pub fn read(&mut self, address: u16) -> Result<u16, Refusal>
         ensures outcome { outcome result (held C.Chip self.new) ≡ read_word C.Chip.next address (held C.Chip self.old) }
         ensures follows { Follows C.Chip (Fetch address 1) self.old self.new (result_and result (Ok tt)) }
@@ -105,7 +105,7 @@ impl<C: Chip> Driver<C> {
     }
 
     // Fills the words from consecutive cells, with cell 0 after the last. A refusal leaves them as they are.
-    #[tactic(auto, using(crate::proofs::Following::fetching))]
+    #[tactic(auto, using(crate::proofs::Parts::fetching))]
     pub fn run(&mut self, address: u16, words: &mut [u16]) -> Result<(), Refusal>
         ensures outcome { outcome result (held C.Chip self.new) ≡ run_words C.Chip.next address (length words.old) (held C.Chip self.old) }
         ensures words { words.new ≡ filled C.Chip.next address (length words.old) words.old (held C.Chip self.old) }
@@ -127,7 +127,7 @@ impl<C: Chip> Driver<C> {
         self.poll(Cause::Unfinished)
     }
 
-    #[tactic(auto, using(crate::proofs::Following::changing))]
+    #[tactic(auto, using(crate::proofs::Parts::changing))]
     pub fn write(&mut self, address: u16, value: u16) -> Result<(), Refusal>
         ensures outcome { outcome result (held C.Chip self.new) ≡ changed C.Chip.next (Write address value) (held C.Chip self.old) }
         ensures follows { Follows C.Chip (Change (Write address value)) self.old self.new result }
@@ -136,7 +136,7 @@ impl<C: Chip> Driver<C> {
     }
 
     // One cell to all ones.
-    #[tactic(auto, using(crate::proofs::Following::changing))]
+    #[tactic(auto, using(crate::proofs::Parts::changing))]
     pub fn erase(&mut self, address: u16) -> Result<(), Refusal>
         ensures outcome { outcome result (held C.Chip self.new) ≡ changed C.Chip.next (Erase address) (held C.Chip self.old) }
         ensures follows { Follows C.Chip (Change (Erase address)) self.old self.new result }
@@ -145,7 +145,7 @@ impl<C: Chip> Driver<C> {
     }
 
     // Every cell to one value.
-    #[tactic(auto, using(crate::proofs::Following::changing))]
+    #[tactic(auto, using(crate::proofs::Parts::changing))]
     pub fn fill(&mut self, value: u16) -> Result<(), Refusal>
         ensures outcome { outcome result (held C.Chip self.new) ≡ changed C.Chip.next (Wrall value) (held C.Chip self.old) }
         ensures follows { Follows C.Chip (Change (Wrall value)) self.old self.new result }
@@ -154,7 +154,7 @@ impl<C: Chip> Driver<C> {
     }
 
     // Every cell to all ones.
-    #[tactic(auto, using(crate::proofs::Following::changing))]
+    #[tactic(auto, using(crate::proofs::Parts::changing))]
     pub fn clear(&mut self) -> Result<(), Refusal>
         ensures outcome { outcome result (held C.Chip self.new) ≡ changed C.Chip.next Eral (held C.Chip self.old) }
         ensures follows { Follows C.Chip (Change Eral) self.old self.new result }
