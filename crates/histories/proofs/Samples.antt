@@ -14,19 +14,19 @@ use Rattle.histories.proofs.Requests.{performed-by_stage}
 use Rattle.histories.proofs.Views.{state_by, performed-by}
 
 -- a driver of which no sample is kept
-abbrev bare : {V : Type 0} → State V → State (Unit {0})
+abbrev pub bare : {V : Type 0} → State V → State (Unit {0})
 bare {V = V} s = state_by {V = V} (λ _. tt) s
 
 module _ {V : Type 0} (next : V → Pins → Put → V) where
   -- one call
-  call_told : (x : Call) (s : State V) → (performed next x s).after.chip ≡ told next s.chip (samples_of (request_of x) (bare s))
+  pub call_told : (x : Call) (s : State V) → (performed next x s).after.chip ≡ told next s.chip (samples_of (request_of x) (bare s))
   unfolding samples_of stage_of
   call_told x s = ap (λ o. o.after.chip) (performed-by_stage next x s)
 
-  call-bare : (x : Call) (s : State V) → bare (performed next x s).after ≡ (performed unseen x (bare s)).after
+  pub call-bare : (x : Call) (s : State V) → bare (performed next x s).after ≡ (performed unseen x (bare s)).after
   call-bare x s = ap (λ y. y.after) (performed-by (λ _. tt) next unseen (λ _ _ _. refl) x s)
 
-  from_told : (xs : List Call) (s : State V) → (end_from next xs s).chip ≡ told next s.chip (samples_of_calls xs (bare s))
+  pub from_told : (xs : List Call) (s : State V) → (end_from next xs s).chip ≡ told next s.chip (samples_of_calls xs (bare s))
   unfolding end_from samples_of_calls told
   from_told [] s = refl
   from_told (x ∷ xs) s =

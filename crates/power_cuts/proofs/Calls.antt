@@ -1,6 +1,5 @@
 -- Each call sends samples with at most one change among their decisions.
-use Rattle.std.proofs.Common.{◌≡◌, ℕ, ◌-◌, ◌<◌, ◌≤◌, Bool, true, false, cond, List, [], ◌∷◌, ◌++◌, Ok, Err, refl, sym, ap, ◌∙◌, subst, inl, inr, zero-le, arith}
-use Rattle.std.specs.Prelude.{if◌then◌else◌, not, ◌||◌}
+use Rattle.std.proofs.Common.{◌≡◌, ℕ, ◌-◌, Bool, true, false, List, [], ◌∷◌, ◌++◌, Ok, Err, refl, sym, ap, ◌∙◌, subst, inl, inr, zero-le, arith}
 use Rattle.std.proofs.lemmas.Bool.Decides.{leb_tells}
 use Rattle.std.proofs.lemmas.List.{append-nil}
 use Rattle.protocol.specs.declared.instruction.Instruction.{Instruction}
@@ -17,13 +16,12 @@ use Rattle.wire.specs.Runs.{run}
 use Rattle.wire.proofs.Polls.{poll_rests, poll_ready_iff}
 use Rattle.wire.proofs.Resting.{idle-rests}
 use Rattle.driver.specs.Checks.{Checked, greetable, admitted, changeable}
-use Rattle.driver.specs.Outcome.{State, state}
-use Rattle.driver.specs.Cases.{Request, Greet, Settle, Turn, Fetch, Change, Stage, Refused, Polled, Started, Finished, stage_by, stage_of, samples_at, samples_of, lead_of, frame_by, polls_twice, check_of, pins_at_first, pins_after_first, pins_at_second}
+use Rattle.driver.specs.Outcome.{State}
+use Rattle.driver.specs.Cases.{Request, Greet, Settle, Turn, Fetch, Change, stage_by, stage_of, samples_at, samples_of}
 use Rattle.decisions.specs.Decided.{decisions_with, decisions_of, decisions_in, no_change}
 use Rattle.decisions.proofs.Folding.{decisions_append, decisions_are_noted}
 use Rattle.decisions.proofs.Prefixes.{frame_decided, frame_rests}
 use Rattle.decisions.proofs.Still.{no_clock_decides_nothing, rest_owes_none, polling_has_no_clock}
-use Rattle.histories.specs.Events.{bare_chip}
 use Rattle.histories.proofs.Checks.{Admitted, admitted_finds, changeable_finds, sendable}
 use Rattle.histories.proofs.Effects.{Sound}
 use Rattle.power_cuts.proofs.Few.{few, few_none, no_changes, few_then, then_few}

@@ -1,5 +1,5 @@
 -- Calls counted while they are performed.
-use Rattle.std.proofs.Common.{◌≡◌, ℕ, ◌+◌, ◌<◌, ◌≤◌, Bool, true, false, List, ◌∷◌, [], length, get_or, drop, take, Ok, Err, Result, refl, sym, ap, zero-add, ◌∙◌, arith}
+use Rattle.std.proofs.Common.{◌≡◌, ℕ, ◌+◌, ◌<◌, ◌≤◌, Bool, true, false, List, ◌∷◌, [], length, get_or, drop, Result, sym, ap, zero-add, ◌∙◌, arith}
 use Rattle.std.specs.Prelude.{if◌then◌else◌}
 use Rattle.std.proofs.lemmas.List.{at_drop_more, at_drop_all}
 use Rattle.protocol.specs.declared.refusal.Refusal.{Refusal}
@@ -8,8 +8,8 @@ use Rattle.driver.specs.Outcome.{State}
 use Rattle.histories.specs.declared.call.Call.{Call}
 use Rattle.histories.specs.declared.told.Told.{Told}
 use Rattle.histories.specs.Events.{performed}
-use Rattle.histories.specs.Performing.{has_room, Performed, PerformsNext}
-use Rattle.histories.proofs.Going.{Going, begun, more, next_done, done}
+use Rattle.histories.specs.Performing.{has_room, PerformsNext}
+use Rattle.histories.proofs.Going.{Going, begun, more, next_done}
 use Rattle.power_cuts.specs.Counting.{uncut_count}
 use Rattle.power_cuts.specs.Twin.{Twinned}
 

@@ -1,45 +1,30 @@
 -- A history, cut off after any sample.
-use Rattle.std.proofs.Common.{◌≡◌, ℕ, zero, suc, ◌+◌, ◌-◌, ◌<◌, ◌≤◌, ◌⊎◌, Bool, true, false, List, [], ◌∷◌, ◌++◌, length, take, refl, sym, ap, ◌∙◌, subst, inl, inr, arith}
+use Rattle.std.proofs.Common.{◌≡◌, ℕ, zero, suc, ◌-◌, ◌<◌, ◌≤◌, ◌⊎◌, Bool, true, false, List, [], ◌∷◌, ◌++◌, length, take, refl, sym, ap, ◌∙◌, inl, inr, arith}
 use Rattle.std.specs.Prelude.{if◌then◌else◌, nat_lt}
 use Rattle.std.proofs.lemmas.Bool.{ltb-true}
 use Rattle.std.proofs.lemmas.Bool.Decides.{nat_tests}
 use Rattle.std.proofs.lemmas.List.{take-append-le, take_all, length-append}
-use Rattle.protocol.specs.declared.instruction.Instruction.TheVariants as instruction
 use Rattle.chips.specs.Pins.{Pins, Put}
 use Rattle.wire.specs.Runs.{run}
 use Rattle.wire.proofs.Keeping.{run_appends}
 use Rattle.wire.proofs.Tells.{told-pins}
 use Rattle.driver.specs.Cases.{samples_of}
-use Rattle.driver.specs.Outcome.{State, state}
-use Rattle.driver.proofs.Following.{by_stage, greet-by_stage, settle-by_stage, turned-by_stage, run_words-by_stage, changed-by_stage}
+use Rattle.driver.specs.Outcome.{State, Outcome}
+use Rattle.histories.proofs.Requests.{performed-by_stage}
 use Rattle.decisions.proofs.Folding.{take_both}
 use Rattle.histories.specs.declared.call.Call.{Call}
-use Rattle.histories.specs.declared.call.Call.TheVariants.{Greet, Settle, Open, Shut, Read, Run, Write, Erase, Fill, Clear}
-use Rattle.histories.specs.Events.{performed, end_from, unseen, bare_chip}
-use Rattle.histories.proofs.Effects.{Sound, sound_new, sound_after}
-use Rattle.power_cuts.specs.Temporary.{request_of, samples_of_calls}
+use Rattle.histories.specs.Events.{performed, end_from, unseen}
+use Rattle.histories.proofs.Effects.{Sound, sound_after}
+use Rattle.histories.specs.Requests.{request_of}
+use Rattle.histories.specs.Samples.{samples_of_calls}
 use Rattle.power_cuts.proofs.Few.{few_cut}
 use Rattle.power_cuts.proofs.Calls.{call_few}
 
 abbrev Driver : Type 0
 Driver = State (Unit {0})
 
--- a call sends the samples of its request
-module _ {V : Type 0} (next : V → Pins → Put → V) where
-  pub performed-by_stage : (x : Call) (s : State V) → (performed next x s).after ≡ (by_stage next (request_of x) s).after
-  performed-by_stage Greet s = ap (λ o. o.after) (greet-by_stage next s)
-  performed-by_stage Settle s = ap (λ o. o.after) (settle-by_stage next s)
-  performed-by_stage Open s = ap (λ o. o.after) (turned-by_stage next true instruction.Wen s)
-  performed-by_stage Shut s = ap (λ o. o.after) (turned-by_stage next false instruction.Wds s)
-  performed-by_stage (Read address) s = ap (λ o. o.after) (run_words-by_stage next address 1 s)
-  performed-by_stage (Run address count) s = ap (λ o. o.after) (run_words-by_stage next address count s)
-  performed-by_stage (Write address value) s = ap (λ o. o.after) (changed-by_stage next (instruction.Write address value) s)
-  performed-by_stage (Erase address) s = ap (λ o. o.after) (changed-by_stage next (instruction.Erase address) s)
-  performed-by_stage (Fill value) s = ap (λ o. o.after) (changed-by_stage next (instruction.Wrall value) s)
-  performed-by_stage Clear s = ap (λ o. o.after) (changed-by_stage next instruction.Eral s)
-
 call_runs : (x : Call) (s : Driver) → (performed unseen x s).after.chip.pins ≡ run s.chip.pins (samples_of (request_of x) s)
-call_runs x s = ap (λ (t : Driver). t.chip.pins) (performed-by_stage unseen x s) ∙ told-pins unseen s.chip (samples_of (request_of x) s)
+call_runs x s = ap (λ (o : Outcome (Unit {0}) (Unit {0})). o.after.chip.pins) (performed-by_stage unseen x s) ∙ told-pins unseen s.chip (samples_of (request_of x) s)
 
 -- How many calls are whole after k samples, from a driver on.
 unfoldable pub whole_of : List Call → Driver → ℕ → ℕ

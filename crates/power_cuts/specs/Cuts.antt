@@ -3,15 +3,10 @@ use Rattle.std.specs.Prelude.{Bool, true, Err, Result, IsOkAnd, ◌≡◌, ℕ, 
 use Rattle.protocol.specs.declared.refusal.Cause.TheVariants.{NoRoom}
 use Rattle.protocol.specs.declared.refusal.Refusal.{Refusal}
 use Rattle.protocol.specs.Refusals.{refusal}
-use Rattle.chips.specs.Pins.{Pins, Put}
-use Rattle.driver.specs.Outcome.{state}
+use Rattle.chips.specs.Pins.{Pins}
 use Rattle.histories.specs.declared.call.Call.{Call}
-use Rattle.histories.specs.Events.{bare_chip, end_on}
-use Rattle.power_cuts.specs.Temporary.{samples_of_calls}
-
--- the samples that the calls of a history put on a chip, from a new driver on
-abbrev pub samples_by : List Call → Pins → List Put
-samples_by calls p = samples_of_calls calls (state false false (bare_chip p))
+use Rattle.histories.specs.Events.{end_on}
+use Rattle.histories.specs.Samples.{samples_from}
 
 -- the bytes that the first n of the calls leave
 abbrev pub bytes_by : List Call → ℕ → Pins → List ℕ
@@ -20,12 +15,12 @@ bytes_by calls n p = (end_on (take n calls) p).machine.bytes
 -- After k samples n of the calls are whole: all their samples have come, and not all of those of the next call, if there is one.
 pub record AreWhole (calls : List Call) (p : Pins) (k n : ℕ) : Type 0 where
   pub within : n ≤ length calls
-  pub come : length (samples_by (take n calls) p) ≤ k
-  pub cut : n < length calls → k < length (samples_by (take (suc n) calls) p)
+  pub come : length (samples_from (take n calls) p) ≤ k
+  pub cut : n < length calls → k < length (samples_from (take (suc n) calls) p)
 
--- The bytes are those that n calls leave, or those that one call more leaves.
-abbrev pub LeftByWhole : List Call → Pins → ℕ → List ℕ → Type 0
-LeftByWhole calls p n bytes = (bytes ≡ bytes_by calls n p) ⊎ ((n < length calls) × (bytes ≡ bytes_by calls (suc n) p))
+-- A chip has the bytes that n calls leave, or those that one call more leaves.
+pub record HasBytesOfWhole (calls : List Call) (p : Pins) (n : ℕ) (chip : Pins) : Type 0 where
+  pub either : (chip.machine.bytes ≡ bytes_by calls n p) ⊎ ((n < length calls) × (chip.machine.bytes ≡ bytes_by calls (suc n) p))
 
 -- the answer: how many calls are whole after k samples, or a refusal without room for what the calls hand out
 abbrev pub CountsWhole : Bool → List Call → Pins → ℕ → Result ℕ Refusal → Type 0

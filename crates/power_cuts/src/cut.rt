@@ -4,8 +4,9 @@ ghost use Rattle.chips.specs.Seen.{seen};
 ghost use Rattle.wire.specs.Sent.{Sends};
 ghost use Rattle.power_cuts.specs.Standing.{held_with};
 ghost use Rattle.histories.specs.Performing.{has_room, Performed, PerformsIf};
+ghost use Rattle.histories.specs.Samples.{samples_from};
 ghost use Rattle.power_cuts.specs.Counting.{uncut_count};
-ghost use Rattle.power_cuts.specs.Cuts.{samples_by, CountsWhole, LeftByWhole};
+ghost use Rattle.power_cuts.specs.Cuts.{CountsWhole, HasBytesOfWhole};
 ghost use Rattle.power_cuts.specs.Twin.{twin_after};
 
 use crate::twin::WithTwin;
@@ -34,4 +35,38 @@ fn count_whole<C: Chip, D: Chip>(
         }
     }
     Ok(whole)
+}
+
+// Performs the calls with a new driver on the chip. Their samples go to the twin too, but only the first `samples` of them, as if its
+// supply failed then. The answer is how many of the calls are whole: all their samples came. Without room for what the calls hand out
+// nothing is done.
+pub fn perform_with_cut<C: Chip, D: Chip>(
+    chip: &mut C,
+    twin: &mut D,
+    calls: &[Call],
+    samples: usize,
+    told: &mut Told,
+) -> Result<usize, Refusal>
+    ensures performs { PerformsIf C.Chip (has_room calls.now told.old) calls.now chip.old chip.new told.old told.new }
+    ensures sent {
+        Sends D.Chip twin.old twin.new (if has_room calls.now told.old then take samples (samples_from calls.now (C.Chip.meaning chip.old)) else [])
+    }
+    ensures whole { CountsWhole (has_room calls.now told.old) calls.now (C.Chip.meaning chip.old) samples result }
+    ensures bytes {
+        D.Chip.meaning twin.old ≡ C.Chip.meaning chip.old
+        → IfOk result (λ n. HasBytesOfWhole calls.now (C.Chip.meaning chip.old) n (D.Chip.meaning twin.new))
+    }
+{
+    // facts promises that the chip fits, on which the law of the bytes rests
+    let _ = chip.facts();
+    if !has_room(calls, told) {
+        return Err(Cause::NoRoom.into());
+    }
+    let mut driver = Driver::new(WithTwin {
+        chip,
+        twin,
+        left: samples,
+        cut: false,
+    });
+    count_whole(&mut driver, calls, told)
 }

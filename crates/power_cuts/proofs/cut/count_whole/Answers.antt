@@ -1,5 +1,5 @@
 use Rattle.std.proofs.Common.{rules}
-use Rattle.histories.proofs.Going.{not_refused, done}
+use Rattle.histories.proofs.Going.{not_refused}
 use Rattle.power_cuts.proofs.Counts.{none_counted, one_counted, all_counted}
 use Rattle.power_cuts.specs.Twin.{twin_after}
 use Rattle.power_cuts.proofs.cut.count_whole.Goals as goal
