@@ -1,4 +1,9 @@
 //! Words into a chip, by its driver.
+ghost use Rattle.std.specs.Prelude.{◌≡◌};
+ghost use Rattle.driver.specs.Held.{held};
+ghost use Rattle.driver.specs.Outcome.{outcome};
+ghost use Rattle.save_words.specs.Saving.{save_outcome};
+
 use crate::pair::Pair;
 use chips::chip::Chip;
 use driver::driver::Driver;
@@ -6,7 +11,10 @@ use protocol::refusal::Refusal;
 
 // Opens the chip, writes each pair and shuts the chip again. A refusal ends it: what was written before stays, and an open chip
 // stays open.
-pub fn save<C: Chip>(driver: &mut Driver<C>, pairs: &[Pair]) -> Result<(), Refusal> {
+#[tactic(auto, using(crate::proofs::Saves::writes_none))]
+pub fn save<C: Chip>(driver: &mut Driver<C>, pairs: &[Pair]) -> Result<(), Refusal>
+    ensures saved { outcome result (held C.Chip driver.new) ≡ save_outcome C.Chip.next pairs.now (held C.Chip driver.old) }
+{
     driver.greet()?;
     driver.open()?;
     for pair in pairs {
