@@ -1,4 +1,4 @@
-//! Writes words into a 93C46 and reads them back: each line of standard input is a pair of numbers, an address and a value.
+//! Writes words into a 93C46 and reads them back: each line of standard input is an address and a value.
 #![tactic(auto)]
 
 use crate::pair::{Pair, pairs_in};

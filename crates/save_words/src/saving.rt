@@ -9,8 +9,8 @@ use chips::chip::Chip;
 use driver::driver::Driver;
 use protocol::refusal::Refusal;
 
-// Opens the chip, writes each pair and shuts the chip again. A refusal ends it: what was written before stays, and an open chip
-// stays open.
+// Opens the chip, writes each pair and shuts the chip again. A refusal ends it: what was written before
+// stays, and an open chip stays open.
 #[tactic(auto, using(crate::proofs::Saves::writes_none))]
 pub fn save<C: Chip>(driver: &mut Driver<C>, pairs: &[Pair]) -> Result<(), Refusal>
     ensures saved { outcome result (held C.Chip driver.new) ≡ save_outcome C.Chip.next pairs.now (held C.Chip driver.old) }
