@@ -1,5 +1,5 @@
 -- A bit of an instruction with more than one bit to come is only appended.
-use Rattle.std.proofs.Common.{◌≡◌, true, ℕ, ◌+◌, ◌*◌, ◌<◌, false, not, refl, ap, ◌∙◌, inl, inr, arith}
+use Rattle.std.proofs.Common.{◌≡◌, ℕ, ◌+◌, ◌*◌, ◌<◌, false, not, refl, ◌∙◌, inl, inr, arith}
 use Rattle.std.proofs.lemmas.Bool.{and_right, ne_eqb}
 use Rattle.protocol.specs.declared.parts.Width.{Width}
 use Rattle.protocol.specs.declared.sample.Sample.{Sample}
@@ -9,10 +9,9 @@ use Rattle.protocol.specs.Parts.{field_of}
 use Rattle.protocol.proofs.Spans.{kind_stays}
 use Rattle.protocol.proofs.Table.{agreed}
 use Rattle.chips.specs.declared.state.Decision.TheVariants.{Nothing}
-use Rattle.chips.specs.declared.state.Phase.{Phase}
 use Rattle.chips.specs.declared.state.Phase.TheVariants.{Taking, Spoiled}
 use Rattle.chips.specs.declared.state.State.{State}
-use Rattle.chips.specs.Control.{is_clock_edition, turn_to, in_phase, taken, appended, turned}
+use Rattle.chips.specs.Control.{is_clock_edition, turn_to, in_phase, taken, appended}
 use Rattle.protocol.specs.Samples.{bit_of}
 use Rattle.chips.specs.Fits.{Midway, bits_below}
 use Rattle.chips.proofs.Lengths.{bit_small, spoils}
@@ -45,11 +44,3 @@ module _ (setup : Setup) (s : Sample) (width : Width) (count bits : ℕ) (st : S
   midway (inr h) =
       let k = kind_stays count bits (bit_of s.di) (omega (arith, h.0, (agreed setup.part width).least)) (bit_small s.di) in
       only-appended (omega (arith, h.1)) (λ e. omega (arith, h.0, e)) (rw k (λ e. omega (arith, h.1, e)))
-
--- a clock in taking
-pub clock_taken : (setup : Setup) (s : Sample) (st : State) (width : Width) (count bits : ℕ) →
-    s.cs ≡ true → st.cs ≡ true → s.sk ≡ true → st.sk ≡ false → st.left ≡ 0 → st.phase ≡ Taking width count bits →
-    turned setup s st ≡ appended setup s width count bits (in_phase (Taking width count bits) st)
-clock_taken setup s st width count bits a b c d e f =
-    let turns : turned setup s st ≡ appended setup s width count bits st = rw (a, b, c, d, e, f) refl in
-    turns ∙ ap (λ (phase : Phase). appended setup s width count bits (in_phase phase st)) f

@@ -1,7 +1,8 @@
 //! One sample after the other. A step is inlined where it is called, so that a loop over samples keeps the state in registers.
 ghost use Rattle.std.specs.Prelude.{◌≡◌, ◌^◌, ◌<◌, ◌≤◌, true};
 ghost use Rattle.protocol.specs.Instructions.{length_of, kind_at};
-ghost use Rattle.chips.specs.Control.{obeyed, ending, deselected, is_quiet, taken, appended, turned, turn};
+ghost use Rattle.protocol.specs.Parts.{bits_of, cells_of};
+ghost use Rattle.chips.specs.Control.{obeyed, ending, deselected, is_quiet, taken, appended, read_on, turned, turn};
 ghost use Rattle.chips.specs.declared.state.Decision.TheVariants.{Nothing};
 ghost use Rattle.chips.specs.declared.state.Phase.TheVariants.{Taking};
 ghost use Rattle.chips.specs.Fits.{bits_below, DecisionFits};
@@ -64,16 +65,24 @@ impl Control {
         }
     }
 
+    // CS is low: what that decided is carried out, and the chip waits.
+    #[inline(always)]
+    fn deselect(&mut self, decision: Decision) -> Decision
+        requires { DecisionFits self.old.setup.part decision }
+        ensures { Turns self.old self.new result (deselected self.old.setup decision self.old.state) }
+    {
+        self.obey(decision);
+        self.state.rest();
+        decision
+    }
+
     // CS has fallen while an instruction came in.
     #[inline(always)]
     fn end(&mut self, pe: bool, incoming: Incoming) -> Decision
         requires { incoming.setup ≡ self.old.setup }
         ensures { Turns self.old self.new result (deselected self.old.setup (ending self.old.setup self.old.state.enabled pe (Taking incoming.width incoming.count incoming.bits)) self.old.state) }
     {
-        let decision = incoming.ending(self.permission(pe));
-        self.obey(decision);
-        self.state.rest();
-        decision
+        self.deselect(incoming.ending(self.permission(pe)))
     }
 
     // An instruction has got one more bit.
@@ -123,65 +132,64 @@ impl Control {
         }
     }
 
-    // Rules 2 to 4, in this order: each arm names the phase, CS and SK as they were and are, and DI.
+    // The phase after a clock in reading.
+    #[inline(always)]
+    fn read_on(&self, width: Width, cell: u16, next: u8) -> Phase
+        requires { (cell < cells_of self.now.setup.part width) × (next < bits_of width) }
+        ensures { result ≡ read_on self.now.setup.part width cell next }
+    {
+        if next + 1 < width.bits() {
+            Phase::Reading {
+                width,
+                cell,
+                next: next + 1,
+            }
+        } else {
+            let cells = self.setup.part.organised(width).cells();
+            Phase::Reading {
+                width,
+                cell: (cell + 1) % cells,
+                next: 0,
+            }
+        }
+    }
+
+    // Rules 2 to 4, in their order: each arm names CS and SK as they were and are, the phase, and DI.
     #[tactic(auto, using(crate::proofs::Lengths::start_short))]
     #[inline(always)]
     fn decide(&mut self, s: Sample) -> Decision
         ensures { Turns self.old self.new result (turned self.old.setup s self.old.state) }
     {
-        let part = self.setup.part;
-        let State { cs, sk, left, .. } = self.state;
-        let busy = left != 0;
-        match (&mut self.state.phase, (cs, s.cs), (sk, s.sk), s.di) {
-            // Rule 2. CS falls while an instruction comes in.
-            (Phase::Taking { width, count, bits }, (true, false), _, _) => {
-                let (width, count, bits) = (*width, *count, *bits);
+        let was = self.state;
+        let busy = was.left != 0;
+        match ((was.cs, s.cs), (was.sk, s.sk), was.phase, s.di) {
+            // Rule 2. CS falls while an instruction comes in, or after too many bits; else it is low.
+            ((true, false), _, Phase::Taking { width, count, bits }, _) => {
                 self.end(s.pe, self.incoming(width, count, bits))
             }
-            (Phase::Spoiled, (true, false), _, _) => {
-                self.state.rest();
-                Decision::WrongCount
-            }
-            // CS is low.
-            (_, (_, false), _, _) => {
-                self.state.rest();
-                Decision::Nothing
-            }
+            ((true, false), _, Phase::Spoiled, _) => self.deselect(Decision::WrongCount),
+            ((_, false), _, _, _) => self.deselect(Decision::Nothing),
             // Rule 3. CS rises while a cycle is under way.
-            (phase, (false, true), _, _) if busy => {
-                *phase = Phase::Over;
+            ((false, true), _, _, _) if busy => {
+                self.state.phase = Phase::Over;
                 self.state.status = true;
                 Decision::Nothing
             }
-            // Rule 4. A clock, which a cycle under way makes unheard.
-            (phase @ Phase::Waiting, (true, true), (false, true), true) if !busy => {
-                let width = part.width(s.org);
-                *phase = Phase::Taking {
-                    width,
-                    count: 0,
-                    bits: 0,
-                };
+            // Rule 4. A clock, which does nothing while a cycle is under way.
+            _ if busy => Decision::Nothing,
+            ((true, true), (false, true), Phase::Waiting, true) => {
+                let width = self.setup.part.width(s.org);
+                self.state.phase = self.incoming(width, 0, 0).into();
                 Decision::Start { width }
             }
-            (Phase::Taking { width, count, bits }, (true, true), (false, true), _) if !busy => {
-                let (width, count, bits) = (*width, *count, *bits);
+            ((true, true), (false, true), Phase::Taking { width, count, bits }, _) => {
                 self.append(s, self.incoming(width, count, bits))
             }
-            (Phase::Reading { width, cell, next }, (true, true), (false, true), _) if !busy => {
-                let data = Decision::Data {
-                    width: *width,
-                    cell: *cell,
-                    next: *next,
-                };
-                *next += 1;
-                if *next == width.bits() {
-                    let cells = part.organised(*width).cells();
-                    *next = 0;
-                    *cell = (*cell + 1) % cells;
-                }
-                data
+            ((true, true), (false, true), Phase::Reading { width, cell, next }, _) => {
+                self.state.phase = self.read_on(width, cell, next);
+                Decision::Data { width, cell, next }
             }
-            (Phase::Over, (true, true), (false, true), true) if !busy => {
+            ((true, true), (false, true), Phase::Over, true) => {
                 self.state.status = false;
                 Decision::Nothing
             }
