@@ -1,11 +1,6 @@
-use Rattle.std.proofs.Common.{subst, sym}
 use Rattle.protocol.specs.declared.settings.Edition.TheVariants.{Clock}
-use Rattle.chips.specs.Meaning.{pins_of}
-use Rattle.chips.specs.Powered.{OfEdition}
 use Rattle.chips.proofs.Editions.{trace_keeps}
 use Rattle.chips.proofs.clock.ClockChip.run_trace.Goals as goal
 
 pub invariant_of-self : goal.invariant_of-self
-invariant_of-self c =
-    let s = c.args.self.now in
-    record { edition = subst (OfEdition Clock) (sym c.run_trace.ensures.chip) (trace_keeps Clock (pins_of s.model) c.args.samples.now c.run_trace.result s.edition) }
+invariant_of-self c = record { edition = trace_keeps Clock _ _ _ _ c.run_trace.ensures.chip c.args.self.now.edition }
