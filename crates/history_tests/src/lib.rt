@@ -10,7 +10,7 @@ mod tests {
     use driver::driver::Driver;
     use frame_writer::write_frame;
     use histories::call::Call;
-    use histories::perform::perform;
+    use histories::perform::{perform, perform_next};
     use histories::told::Told;
     use protocol::instruction::Instruction;
     use protocol::list::List;
@@ -405,17 +405,22 @@ mod tests {
         driver.read(address)
     }
 
-    // DO as CS falls after a WRITE and in two samples with CS high, and what a new driver then reads.
+    // DO as CS falls and in two samples with CS high.
+    fn fall<C: Chip>(chip: &mut C) -> [u8; 3] {
+        [
+            chip.put(false, false, false),
+            chip.put(true, false, false),
+            chip.put(true, false, false),
+        ]
+    }
+
+    // That after a WRITE, and what a new driver then reads.
     fn status(length: u16) -> Result<([u8; 3], u16), Refusal> {
         let mut memory = [0; 128];
         let mut chip = small(&mut memory, length);
         open(&mut chip)?;
         clock_in(&mut chip, &WRITE);
-        let levels = [
-            chip.put(false, false, false),
-            chip.put(true, false, false),
-            chip.put(true, false, false),
-        ];
+        let levels = fall(&mut chip);
         let word = meet(&mut chip, 5)?;
         Ok((levels, word))
     }
@@ -481,6 +486,107 @@ mod tests {
         }
         assert_eq!(rt; words, [9; 8]);
         assert_eq!(rt; memory, [7; 128]);
+    }
+
+    const MANY: usize = 65_536;
+
+    // A run of more words than 65,535 with room for them is refused, and the read after it is performed.
+    #[test]
+    fn long_run_is_refused(rt: HostRuntime) -> Result<(), Fail> {
+        let mut memory = [7; 128];
+        let mut words = vec![in rt.alloc(); 9u16; MANY + 1]?;
+        let mut room = [DONE; 3];
+        let calls = [
+            Call::Greet,
+            Call::Run {
+                address: 0,
+                count: MANY,
+            },
+            Call::Read { address: 0 },
+        ];
+        let count = refused(Cause::WordCount);
+        {
+            let mut chip = small(&mut memory, 5);
+            let mut told = Told {
+                answers: List::new(&mut room),
+                words: List::new(&mut words),
+            };
+            assert_eq!(rt; perform(&mut chip, &calls, &mut told), DONE);
+            assert_eq!(rt; told.words.items(), [0x0707].as_slice());
+        }
+        assert_eq!(rt; room, [DONE, count, DONE]);
+        assert_eq!(rt; words.get(1), Some(&9));
+        Ok(())
+    }
+
+    // A run fills the last free places, and the read after it finds none.
+    fn check_last_places<C: Chip>(rt: &impl Abort, chip: &mut C, told: &mut Told) {
+        let run = Call::Run {
+            address: 63,
+            count: 4,
+        };
+        let mut driver = Driver::new(chip);
+        assert_eq!(rt; perform_next(&mut driver, Call::Greet, told), DONE);
+        assert_eq!(rt; perform_next(&mut driver, run, told), DONE);
+        assert_eq!(rt; told.words.left(), 0);
+        assert_eq!(rt;
+            perform_next(&mut driver, Call::Read { address: 0 }, told),
+            refused(Cause::NoRoom)
+        );
+        assert_eq!(rt; told.answers.items(), [DONE; 2].as_slice());
+        assert_eq!(rt; told.words.items(), [0x0707; 4].as_slice());
+        assert_eq!(rt; driver.get_ref().facts(), (46, 1, 1));
+    }
+
+    #[test]
+    fn last_places_are_filled(rt: HostRuntime) {
+        let mut memory = [7; 128];
+        let mut words = [9; 4];
+        let mut room = [DONE; 3];
+        let mut chip = small(&mut memory, 5);
+        let mut told = Told {
+            answers: List::new(&mut room),
+            words: List::new(&mut words),
+        };
+        check_last_places(&rt, &mut chip, &mut told);
+    }
+
+    // Greet and a run of four words: what `perform` answers, and how many answers and words there are.
+    fn run_of_four<C: Chip>(
+        chip: &mut C,
+        words: &mut [u16],
+    ) -> (Result<(), Refusal>, usize, usize) {
+        let calls = [
+            Call::Greet,
+            Call::Run {
+                address: 0,
+                count: 4,
+            },
+        ];
+        let mut room = [DONE; 2];
+        let mut told = Told {
+            answers: List::new(&mut room),
+            words: List::new(words),
+        };
+        let answer = perform(chip, &calls, &mut told);
+        (answer, told.answers.len(), told.words.len())
+    }
+
+    // One place too few: nothing is sent, so that CS is still high behind the WRITE.
+    #[test]
+    fn run_without_room(rt: HostRuntime) -> Result<(), Fail> {
+        let mut memory = [0; 128];
+        let mut words = [9; 3];
+        let mut chip = small(&mut memory, 2);
+        open(&mut chip)?;
+        clock_in(&mut chip, &WRITE);
+        assert_eq!(rt;
+            run_of_four(&mut chip, &mut words),
+            (refused(Cause::NoRoom), 0, 0)
+        );
+        assert_eq!(rt; words, [9; 3]);
+        assert_eq!(rt; fall(&mut chip), [2, 0, 1]);
+        Ok(())
     }
 
     fn read(address: u16, words: u16) -> Instruction {
