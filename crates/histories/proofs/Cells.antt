@@ -1,7 +1,8 @@
 -- The cells of a chip as a list: what reads and changes do, by the list alone.
-use Rattle.std.proofs.Common.{◌≡◌, ℕ, ◌+◌, ◌*◌, ◌%◌, ◌<◌, ◌≤◌, List, length, get_or, set, replicate, sym, ap, ◌∙◌, inl, inr, mod-eq_of_lt, zero-add, arith}
+use Rattle.std.proofs.Common.{◌≡◌, ℕ, ◌+◌, ◌*◌, ◌%◌, ◌<◌, ◌≤◌, List, length, get_or, slice_get, Some, set, replicate, sym, ap, ◌∙◌, inl, inr, mod-eq_of_lt, zero-add, arith}
 use Rattle.std.proofs.lemmas.Nat.{mod_below}
 use Rattle.std.proofs.lemmas.List.{ext_get_or, length-set, length-replicate, get_or-replicate, get_or-set_same, get_or-set_other}
+use Rattle.std.proofs.lemmas.Option.{slice_get-get_or}
 use Rattle.std.proofs.lemmas.Bool.{cases_eq}
 use Rattle.protocol.specs.declared.parts.Part.{Part}
 use Rattle.protocol.specs.declared.parts.Width.{Width}
@@ -26,11 +27,18 @@ module _ (part : Part) (width : Width) where
   all_at bytes k h = cells_from-at part width bytes count 0 k (agreed part width).some h ∙ rw (zero-add, mod-eq_of_lt h)
 
   -- words from a cell on
-  pub from_all : (bytes : List ℕ) (n cell k : ℕ) → cell < count → k < n →
+  from_all : (bytes : List ℕ) (n cell k : ℕ) → cell < count → k < n →
       get_or (cells_from part width bytes n cell) k 0 ≡ get_or (all_cells bytes) ((cell + k) % length (all_cells bytes)) 0
   from_all bytes n cell k h i =
       cells_from-at part width bytes n cell k h i
       ∙ rw (all_length bytes) (sym (all_at bytes ((cell + k) % count) (mod_below _ _ (agreed part width).some)))
+
+  pub in_cells : (bytes : List ℕ) (n cell k : ℕ) → cell < count → k < n →
+      slice_get (all_cells bytes) ((cell + k) % length (all_cells bytes)) ≡ Some (get_or (cells_from part width bytes n cell) k 0)
+  in_cells bytes n cell k h i =
+      let within : (cell + k) % length (all_cells bytes) < length (all_cells bytes) =
+      rw (all_length bytes) (mod_below (cell + k) count (agreed part width).some) in
+      slice_get-get_or (all_cells bytes) ((cell + k) % length (all_cells bytes)) 0 within ∙ ap Some (sym (from_all bytes n cell k h i))
 
   pub same_words : (bytes others : List ℕ) (n cell : ℕ) → cell < count → all_cells bytes ≡ all_cells others →
       cells_from part width bytes n cell ≡ cells_from part width others n cell

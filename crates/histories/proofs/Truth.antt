@@ -1,5 +1,5 @@
 -- Every word that a history hands out is what the book then holds for its cell.
-use Rattle.std.proofs.Common.{◌≡◌, ℕ, zero, suc, ◌+◌, ◌%◌, ◌<◌, Bool, true, false, cond, List, [], ◌∷◌, length, get_or, take, Some, None, Ok, Err, Option, sym, refl, ap, ◌∙◌, inl, inr, arith}
+use Rattle.std.proofs.Common.{◌≡◌, ℕ, zero, suc, ◌+◌, ◌%◌, ◌<◌, Bool, true, false, cond, List, [], ◌∷◌, length, get_or, slice_get, take, Some, None, Ok, Err, Option, sym, refl, ap, ◌∙◌, inl, inr, arith}
 use Rattle.std.proofs.lemmas.Bool.{both_ways, cond_both}
 use Rattle.std.proofs.lemmas.Option.{get_or_from_slice_get, slice_get_within}
 use Rattle.protocol.specs.declared.instruction.Instruction.TheVariants as instruction
@@ -15,7 +15,7 @@ use Rattle.chips.specs.Fitting.{Fitting}
 use Rattle.histories.specs.Events.{Event, Yield, performed, event, events_from, end_from, events_on, end_on, cells_in, unseen, bare_chip}
 use Rattle.histories.specs.Book.{is_done, fed, book_after, book_of}
 use Rattle.histories.specs.Laws.{reads_from, InBook, Believed, Truthful}
-use Rattle.histories.proofs.Cells.{from_all}
+use Rattle.histories.proofs.Cells.{in_cells}
 use Rattle.histories.proofs.Checks.{admitted_finds, same_at}
 use Rattle.histories.proofs.Effects.{handed_by, KeptBy, Sound, kept, sound_after, sound_new}
 use Rattle.histories.proofs.Sending.{Driver, words_in}
@@ -26,17 +26,17 @@ Found x p greeted k words = k < length words → (greeted ≡ true) × InBook (S
 
 read_found : (p : Pins) (greeted : Bool) (address count k : ℕ) →
     let words = cond (is_done (admitted p greeted (instruction.Read address count))) (words_in p address count) [] in
-    k < length words → (greeted ≡ true) × (get_or words k 0 ≡ get_or (cells_in p) ((address + k) % length (cells_in p)) 0)
+    k < length words → (greeted ≡ true) × (slice_get (cells_in p) ((address + k) % length (cells_in p)) ≡ Some (get_or words k 0))
 read_found p greeted address count k = by (admitted p greeted (instruction.Read address count)) refl
   where
     by : (c : Checked) → admitted p greeted (instruction.Read address count) ≡ c →
         let words = cond (is_done c) (words_in p address count) [] in
-        k < length words → (greeted ≡ true) × (get_or words k 0 ≡ get_or (cells_in p) ((address + k) % length (cells_in p)) 0)
+        k < length words → (greeted ≡ true) × (slice_get (cells_in p) ((address + k) % length (cells_in p)) ≡ Some (get_or words k 0))
     by (Err e) h i = absurd (omega arith)
     by (Ok u) h i =
         let f = admitted_finds p greeted (instruction.Read address count) h in (
           f.met,
-          from_all p.machine.setup.part (width_on p) p.machine.bytes count address k f.address
+          in_cells p.machine.setup.part (width_on p) p.machine.bytes count address k f.address
               (omega (arith, cells_from-length p.machine.setup.part (width_on p) p.machine.bytes count address)),
         )
 

@@ -1,5 +1,5 @@
 -- The laws over whole histories, each over every place of a list of events.
-use Rattle.std.specs.Prelude.{◌≡◌, ℕ, ◌+◌, ◌%◌, ◌≤◌, false, List, length, take, Some, None, Option, slice_get, slice_index}
+use Rattle.std.specs.Prelude.{◌≡◌, ℕ, ◌+◌, ◌%◌, ◌≤◌, false, List, length, take, Some, None, Option, slice_get}
 use Rattle.histories.specs.declared.call.Call.{Call}
 use Rattle.histories.specs.declared.call.Call.TheVariants.{Greet, Settle, Open, Shut, Read, Run, Write, Erase, Fill, Clear}
 use Rattle.histories.specs.Events.{Event}
@@ -21,7 +21,7 @@ reads_from Clear = None
 
 -- word k of an event is what the book holds for its cell, the cells wrapping
 abbrev pub InBook : Option (List ℕ) → Option ℕ → ℕ → ℕ → Type 0
-InBook (Some book) (Some address) k word = word ≡ slice_index book ((address + k) % length book)
+InBook (Some book) (Some address) k word = slice_get book ((address + k) % length book) ≡ Some word
 InBook (Some book) None k word = ⊥
 InBook None from k word = ⊥
 
