@@ -1,4 +1,5 @@
--- What a call of the driver does, told by cases: how far it comes, what it then answers and records, and exactly which samples it sends.
+-- What a call of the driver does, by cases: how far it comes, what it then answers and records, and exactly which
+-- samples it sends.
 use Rattle.std.specs.Prelude.{◌≡◌, ℕ, ◌<◌, ◌↔◌, Bool, true, false, if◌then◌else◌, ◌||◌, not, List, [], ◌∷◌, ◌++◌, Ok, Err}
 use Rattle.protocol.specs.declared.instruction.Instruction.{Instruction}
 use Rattle.protocol.specs.declared.instruction.Instruction.TheVariants.{Read, Wds}
@@ -18,8 +19,8 @@ use Rattle.driver.specs.Checks.{Checked, greetable, admitted, changeable}
 use Rattle.driver.specs.Held.{held}
 use Rattle.driver.specs.Outcome.{State}
 
--- What a driver is asked for. A turn, which is open or shut, says whether the driver then counts as open, and what it sends; a fetch, which is
--- read or run, has an address and a number of words; a change is write, erase, fill or clear.
+-- What a driver is asked for. A turn is open or shut: whether the driver then counts as open, and what it sends. A
+-- fetch is read or run: an address, and how many words. A change is write, erase, fill or clear.
 pub data Request : Type 0 where
   Greet : Request
   Settle : Request
@@ -69,8 +70,8 @@ pins_after_first r p = let q = pins_at_first r p in run q (polls q)
 abbrev pub pins_at_second : Request → Pins → Pins
 pins_at_second r p = let q = pins_after_first r p in run q (frame_by r q)
 
--- How far a call comes: it is refused before anything is sent; its first polling finds the chip still programming; its frame is sent and taken,
--- and the second polling finds the chip still programming; it is finished.
+-- How far a call comes: it is refused before anything is sent; its first polling finds the chip still programming;
+-- its frame is sent and taken, and the second polling finds the chip still programming; it is finished.
 pub data Stage : Type 0 where
   Refused : (e : Refusal) → Stage
   Polled : Stage
@@ -84,7 +85,8 @@ stage_by (Ok _) ready ready_again = if ready then (if ready_again then Finished 
 unfoldable pub stage_of : {V : Type 0} → Request → State V → Stage
 stage_of r s =
     let p = s.chip.pins in
-    stage_by (check_of r p s.greeted s.opened) (is_ready (pins_at_first r p)) (not (polls_twice r) || is_ready (pins_at_second r p))
+    let ready_again = not (polls_twice r) || is_ready (pins_at_second r p) in
+    stage_by (check_of r p s.greeted s.opened) (is_ready (pins_at_first r p)) ready_again
 
 -- what it answers
 abbrev pub answer_at : Stage → Checked
@@ -102,7 +104,7 @@ is_finished Polled = false
 is_finished Started = false
 is_finished Finished = true
 
--- The record: has the driver greeted its chip, and does it count as open? A finished greet counts as greeted and shut.
+-- The record: has the driver greeted its chip, and does it count as open? After a greet it is greeted and shut.
 abbrev pub record_by : Request → Bool → Bool → Bool × Bool
 record_by Greet greeted opened = (true, false)
 record_by Settle greeted opened = (greeted, opened)
@@ -114,8 +116,8 @@ record_by (Change i) greeted opened = (greeted, opened)
 abbrev pub record_of : {V : Type 0} → Request → State V → Bool × Bool
 record_of r s = if is_finished (stage_of r s) then record_by r s.greeted s.opened else (s.greeted, s.opened)
 
--- Exactly the samples that it sends: none if it is refused, those up to the end of the first polling if that finds the chip still programming,
--- and else also the frame, and the second polling of a change.
+-- Exactly the samples that it sends: none if it is refused; those up to the end of the first polling if that finds
+-- the chip still programming; and else also the frame, and the second polling of a change.
 abbrev pub samples_at : Stage → List Put → List Put → List Put
 samples_at (Refused e) first more = []
 samples_at Polled first more = first
@@ -136,7 +138,7 @@ words_of address count s =
     let r = Fetch address count in
     if is_finished (stage_of r s) then words_on (pins_after_first r s.chip.pins) address count else []
 
--- A driver was asked for this, went from one state to another, and answered: what it answers and records is that of the stage, and its chip,
+-- A driver was asked for this, went from one state to another, and answered: as far as the call came, and its chip,
 -- whatever that keeps of samples, went on by exactly these samples.
 pub record Follows {C : Type 0} (g : Ghosts C) (r : Request) (before after : Driver C) (result : Checked) : Type 0 where
   pub answer : result ≡ answer_of r (held g before)

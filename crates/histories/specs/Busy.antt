@@ -22,8 +22,9 @@ left_at_second r p = left_on (pins_at_second r p)
 abbrev pub IsLetThrough : Request → State (Unit {0}) → Type 0
 IsLetThrough r s = check_of r s.chip.pins s.greeted s.opened ≡ Ok tt
 
--- A driver that stands at s is asked for this, and answers: 14 exactly where it lets the call through and more than 4,096 samples are left as
--- the first polling begins; 15 exactly where it lets it through, no more are left then, but more are as the second begins.
+-- A driver that stands at s is asked for this, and answers: 14 exactly where it lets the call through and more than
+-- 4,096 samples are left as the first polling begins; 15 exactly where it lets it through, no more are left then, but
+-- more are as the second begins.
 pub record BusyAt (r : Request) (s : State (Unit {0})) (answer : Answer) : Type 0 where
   pub first : (answer ≡ Err (refusal Busy 0)) ↔ (IsLetThrough r s × (most_tries < left_at_first r s.chip.pins))
   pub second : (answer ≡ Err (refusal Unfinished 0))
