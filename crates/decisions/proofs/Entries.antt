@@ -32,7 +32,7 @@ use Rattle.traces.specs.declared.entry.Entry.{Entry}
 use Rattle.traces.specs.declared.start_bit.StartBit.{StartBit}
 use Rattle.traces.specs.Entries.{start_after, entry_of, before, entries_from}
 use Rattle.decisions.specs.Decided.{decisions_in, notes_before, written_all}
-use Rattle.decisions.specs.Reader.{Reader, reader, read_one, read_on, bytes_put, byte_notes, entries_in, start_in, reader_at, entry_sent, entries_by}
+use Rattle.decisions.specs.Reader.{Reader, reader, read_one, reader_after, bytes_put, byte_notes, entries_in, start_in, reader_at, entry_sent, entries_by}
 use Rattle.decisions.specs.Laws.{ReaderAppends, ReaderGoesOn, EntriesOfAny, BytesOfAny, NotesOfBytes, RunOfBytes, EntriesAreNoted, ReaderFollows, FrameEntry, NoClockNoEntry, FrameIsRead, PollIsRead, TakeEntry}
 use Rattle.decisions.proofs.Still.{no_clock_decides_nothing, rest_owes_none, polling_has_no_clock}
 use Rattle.decisions.proofs.Prefixes.{frame_noted, first_notes, frame_ends, take_test, decides_inside}
@@ -43,14 +43,14 @@ before-append (Some e) xs ys = refl
 before-append None xs ys = refl
 
 pub reader_appends : ReaderAppends
-unfolding entries_from read_on
+unfolding entries_from reader_after
 reader_appends setup r [] ys = refl
 reader_appends setup r (b ∷ xs) ys =
     let e = entry_of r.start r.place (turn setup r.state (levels b)).decision in
     ap (before e) (reader_appends setup (read_one setup r b) xs ys) ∙ sym (before-append e _ _)
 
 pub reader_goes_on : ReaderGoesOn
-unfolding read_on
+unfolding reader_after
 reader_goes_on setup r [] ys = refl
 reader_goes_on setup r (b ∷ xs) ys = reader_goes_on setup (read_one setup r b) xs ys
 
@@ -160,16 +160,16 @@ entries_are_noted p start place xs live =
     entries_of_any p.machine.setup (reader_at p start place) (bytes_put p xs) ∙ ap (entries_in start) (notes_of_bytes p place xs live)
 
 pub reader_follows : ReaderFollows
-unfolding read_on bytes_put start_in notes run
+unfolding reader_after bytes_put start_in notes run
 reader_follows p start place [] live = let e : place ≡ place + 0 = omega arith in ap (λ k. reader_at p start k) e
 reader_follows p start place (x ∷ xs) live =
     let q = put_on p x in
     let d = decision_on p x in
     let start' = start_after start place d in
     let e : suc place + length xs ≡ place + suc (length xs) = omega arith in
-    ap (λ (r : Reader). read_on p.machine.setup r (bytes_put p xs)) (reads p start place x live)
-    ∙ ap (λ (s : Setup). read_on s (reader_at q start' (suc place)) (bytes_put p xs)) (same_setup p x live)
-    ∙ ap (λ (bs : List ℕ). read_on q.machine.setup (reader_at q start' (suc place)) bs) (sym (bytes_after p x xs))
+    ap (λ (r : Reader). reader_after p.machine.setup r (bytes_put p xs)) (reads p start place x live)
+    ∙ ap (λ (s : Setup). reader_after s (reader_at q start' (suc place)) (bytes_put p xs)) (same_setup p x live)
+    ∙ ap (λ (bs : List ℕ). reader_after q.machine.setup (reader_at q start' (suc place)) bs) (sym (bytes_after p x xs))
     ∙ reader_follows q start' (suc place) xs (put_keeps_blank p x ∙ live)
     ∙ ap (λ k. reader_at (run q xs) (start_in start' (notes (suc place) q xs)) k) e
     ∙ ap (λ s. reader_at (run q xs) s (place + suc (length xs))) (sym (start_noted start place d (notes (suc place) q xs)))

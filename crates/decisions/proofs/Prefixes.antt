@@ -97,7 +97,7 @@ written_if part true d bytes = refl
 written_if part false d bytes = refl
 
 first_change : (p : Pins) (i : Sent) (xs ys : List Put) → Ready p → Sendable p (address_in i) (value_in i) →
-    xs ++ ys ≡ frame_on p i → 
+    xs ++ ys ≡ frame_on p i →
     (run p xs).machine.bytes ≡ cond (nat_lt (decided_at p i 0) (length xs)) (carried_by p i).machine.bytes p.machine.bytes
 first_change p i xs ys r f h =
     let d = frame_decides p (kind_in i) (address_in i) (value_in i) in

@@ -1,7 +1,7 @@
 -- Start bits and decisions take turns.
 use Rattle.decisions.proofs.Entries.{entries_of_any}
 use Rattle.traces.specs.Entries.{no_start}
-use Rattle.decisions.specs.Reader.{reader, read_one, read_on, byte_notes, entries_in, EntriesOrdered, Reader}
+use Rattle.decisions.specs.Reader.{reader, read_one, reader_after, byte_notes, entries_in, EntriesOrdered, Reader}
 use Rattle.traces.specs.declared.start_bit.StartBit.{StartBit}
 use Rattle.traces.specs.declared.entry.Entry.{Entry}
 use Rattle.std.proofs.Common.{◌≡◌, ℕ, suc, ◌+◌, ◌*◌, Bool, true, false, not, ◌&&◌, cond, eqb, ltb, List, [], ◌∷◌, length, refl, sym, ap, arith, subst, add-one, ◌<◌, ◌≤◌, zero-add}
@@ -158,15 +158,15 @@ notes_in_order place p (x ∷ xs) =
 
 -- any samples
 any_alternate : (setup : Setup) (r : Reader) (bs : List ℕ) → (r.state.cs ≡ false → owes r.state.phase ≡ false) →
-    Alternate (owes r.state.phase) (byte_notes setup r.state r.place bs) (owes (read_on setup r bs).state.phase)
-unfolding byte_notes read_on Alternate
+    Alternate (owes r.state.phase) (byte_notes setup r.state r.place bs) (owes (reader_after setup r bs).state.phase)
+unfolding byte_notes reader_after Alternate
 any_alternate setup r [] h = refl
 any_alternate setup r (b ∷ bs) h =
     let t = turn setup r.state (levels b) in
-    let more : Alternate (owes t.state.phase) (byte_notes setup t.state (r.place + 1) bs) (owes (read_on setup (read_one setup r b) bs).state.phase) =
+    let more : Alternate (owes t.state.phase) (byte_notes setup t.state (r.place + 1) bs) (owes (reader_after setup (read_one setup r b) bs).state.phase) =
     any_alternate setup (read_one setup r b) bs (turn_settles setup (levels b) r.state) in
     alternate_noted r.place _ (owes t.state.phase) _ t.decision (byte_notes setup t.state (suc r.place) bs) (turn_steps setup (levels b) r.state h)
-    (subst (λ k. Alternate (owes t.state.phase) (byte_notes setup t.state k bs) (owes (read_on setup (read_one setup r b) bs).state.phase)) (add-one r.place) more)
+    (subst (λ k. Alternate (owes t.state.phase) (byte_notes setup t.state k bs) (owes (reader_after setup (read_one setup r b) bs).state.phase)) (add-one r.place) more)
 
 notes_ordered : (setup : Setup) (st : State) (place : ℕ) (bs : List ℕ) → InOrder place (byte_notes setup st place bs) (place + length bs)
 unfolding byte_notes InOrder
@@ -228,5 +228,5 @@ entries_in_order setup bs =
     let r = reader power_up no_start 0 in
     let l : 0 + length bs ≡ length bs = zero-add (length bs) in
     rw (entries_of_any setup r bs)
-    ((entries_ordered (owes (read_on setup r bs).state.phase) (length bs) (byte_notes setup power_up 0 bs)).1 no_start 0
+    ((entries_ordered (owes (reader_after setup r bs).state.phase) (length bs) (byte_notes setup power_up 0 bs)).1 no_start 0
     (any_alternate setup r bs (λ _. refl)) (subst (λ k. InOrder 0 (byte_notes setup power_up 0 bs) k) l (notes_ordered setup power_up 0 bs)))

@@ -12,7 +12,7 @@ use Rattle.wire.specs.Runs.{run}
 use Rattle.traces.specs.declared.start_bit.StartBit.{StartBit}
 use Rattle.traces.specs.Entries.{entries_of}
 use Rattle.decisions.specs.Decided.{decisions_of, decisions_in, notes_before, written_all, enabled_all, left_by, left_after, no_change, owes, has_no_clock, is_unselected, Settled, Alternate, InOrder}
-use Rattle.decisions.specs.Reader.{Reader, read_on, entries_by, bytes_put, byte_notes, entries_in, start_in, reader_at, entry_sent, EntriesOrdered}
+use Rattle.decisions.specs.Reader.{Reader, reader_after, entries_by, bytes_put, byte_notes, entries_in, start_in, reader_at, entry_sent, EntriesOrdered}
 
 -- RUNS, of any samples on any chip.
 -- What samples decide is what the first of them decide and then, on the chip that these leave, the others.
@@ -187,10 +187,10 @@ pub record FrameLaws : Type 0 where
 -- THE READER. Reading two lists of sample bytes in a row is reading the second from where the first ended.
 abbrev pub ReaderAppends : Type 0
 ReaderAppends = (setup : Setup) (r : Reader) (xs ys : List ℕ) →
-    entries_by setup r (xs ++ ys) ≡ entries_by setup r xs ++ entries_by setup (read_on setup r xs) ys
+    entries_by setup r (xs ++ ys) ≡ entries_by setup r xs ++ entries_by setup (reader_after setup r xs) ys
 
 abbrev pub ReaderGoesOn : Type 0
-ReaderGoesOn = (setup : Setup) (r : Reader) (xs ys : List ℕ) → read_on setup r (xs ++ ys) ≡ read_on setup (read_on setup r xs) ys
+ReaderGoesOn = (setup : Setup) (r : Reader) (xs ys : List ℕ) → reader_after setup r (xs ++ ys) ≡ reader_after setup (reader_after setup r xs) ys
 
 -- Whatever samples a trace holds, its entries are those of its notes,
 abbrev pub EntriesOfAny : Type 0
@@ -221,7 +221,7 @@ EntriesAreNoted = (p : Pins) (start : StartBit) (place : ℕ) (xs : List Put) �
 
 abbrev pub ReaderFollows : Type 0
 ReaderFollows = (p : Pins) (start : StartBit) (place : ℕ) (xs : List Put) → p.blank ≡ false →
-    read_on p.machine.setup (reader_at p start place) (bytes_put p xs)
+    reader_after p.machine.setup (reader_at p start place) (bytes_put p xs)
     ≡ reader_at (run p xs) (start_in start (notes place p xs)) (place + length xs)
 
 -- A frame on a ready chip makes exactly one entry, that of its instruction.
@@ -238,7 +238,7 @@ TakeEntry = (p : Pins) (i : Sent) (start : StartBit) (place k : ℕ) → Ready p
 -- Afterwards the reader is at rest with the chip, and knows the frame's start bit.
 abbrev pub FrameIsRead : Type 0
 FrameIsRead = (p : Pins) (i : Sent) (start : StartBit) (place : ℕ) → Ready p → Sendable p (address_in i) (value_in i) →
-    read_on p.machine.setup (reader_at p start place) (bytes_put p (frame_on p i))
+    reader_after p.machine.setup (reader_at p start place) (bytes_put p (frame_on p i))
     ≡ reader_at (carried_by p i) (record { width = width_on p; place = place + 2 }) (place + length (frame_on p i))
 
 -- Samples without a clock make no entry where none is owed: so idle samples and polling.
@@ -249,7 +249,7 @@ NoClockNoEntry = (p : Pins) (start : StartBit) (place : ℕ) (xs : List Put) →
 -- After polling the reader is at rest with the chip.
 abbrev pub PollIsRead : Type 0
 PollIsRead = (p : Pins) (start : StartBit) (place : ℕ) → Rest p →
-    read_on p.machine.setup (reader_at p start place) (bytes_put p (polls p))
+    reader_after p.machine.setup (reader_at p start place) (bytes_put p (polls p))
     ≡ reader_at (resting p (left_on p - 4097)) start (place + length (polls p))
 
 pub record ReaderLaws : Type 0 where

@@ -27,9 +27,9 @@ abbrev pub read_one : Setup → Reader → ℕ → Reader
 read_one setup r b =
     let t = turn setup r.state (levels b) in reader t.state (start_after r.start r.place t.decision) (r.place + 1)
 
-unfoldable pub read_on : Setup → Reader → List ℕ → Reader
-read_on setup r [] = r
-read_on setup r (b ∷ bs) = read_on setup (read_one setup r b) bs
+unfoldable pub reader_after : Setup → Reader → List ℕ → Reader
+reader_after setup r [] = r
+reader_after setup r (b ∷ bs) = reader_after setup (read_one setup r b) bs
 
 -- the entries that it makes from there on
 abbrev pub entries_by : Setup → Reader → List ℕ → List Entry

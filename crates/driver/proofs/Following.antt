@@ -14,7 +14,7 @@ use Rattle.wire.specs.Sent.{told}
 use Rattle.wire.proofs.Tells.{told-append, told-pins}
 use Rattle.driver.specs.Calls as calls
 use Rattle.driver.specs.Calls.{frame_on, words_on, found, as_done, filled_by}
-use Rattle.driver.specs.Cases.{Request, Greet, Settle, Turn, Fetch, Change, Stage, Started, Finished, stage_by, stage_of, answer_at, answer_of, is_finished, record_by, record_of, samples_at, samples_of, words_of}
+use Rattle.driver.specs.Cases.{Request, Greet, Settle, Turn, Fetch, Change, Stage, Started, Finished, stage_by, stage_of, answer_at, answer_to, is_finished, record_by, record_after, samples_at, samples_of, words_of}
 use Rattle.driver.specs.Checks.{Checked, greetable, admitted, changeable}
 use Rattle.driver.specs.Outcome.{State, Outcome, state, outcome, bind, sent, noted}
 use Rattle.driver.specs.Reads.{run_words}
@@ -27,7 +27,7 @@ module _ {V : Type 0} (next : V → Pins → Put → V) where
       outcome (answer_at stage) (state record_after.0 record_after.1 (told next s.chip (samples_at stage first more)))
 
   abbrev pub by_stage : Request → State V → Outcome V (Unit {0})
-  by_stage r s = outcome (answer_of r s) (state (record_of r s).0 (record_of r s).1 (told next s.chip (samples_of r s)))
+  by_stage r s = outcome (answer_to r s) (state (record_after r s).0 (record_after r s).1 (told next s.chip (samples_of r s)))
 
   -- samples after samples
   sent-append : (xs ys : List Put) (s : State V) → sent next ys (sent next xs s) ≡ sent next (xs ++ ys) s

@@ -7,7 +7,7 @@ use Rattle.wire.specs.Sent.{told}
 use Rattle.wire.proofs.Polls.{poll_ready_iff}
 use Rattle.driver.specs.declared.driver.Driver.{Driver}
 use Rattle.driver.specs.Calls as calls
-use Rattle.driver.specs.Cases.{Request, Greet, Settle, Turn, Fetch, Change, answer_of, record_of, samples_of, words_of}
+use Rattle.driver.specs.Cases.{Request, Greet, Settle, Turn, Fetch, Change, answer_to, record_after, samples_of, words_of}
 use Rattle.driver.specs.Held.{held}
 use Rattle.driver.specs.Outcome.{State, Outcome}
 use Rattle.driver.specs.Reads.{run_words}
@@ -17,66 +17,66 @@ module _ {C : Type 0} (g : Ghosts C) (d : Driver C) where
   abbrev s : State g.View
   s = held g d
 
-  same_answer : (r : Request) (o : Outcome g.View (Unit {0})) → o ≡ by_stage g.next r s → answer_of r s ≡ o.answer
+  same_answer : (r : Request) (o : Outcome g.View (Unit {0})) → o ≡ by_stage g.next r s → answer_to r s ≡ o.answer
   same_answer r o e = ap (λ o. o.answer) (sym e)
 
   same_record : (r : Request) (o : Outcome g.View (Unit {0})) → o ≡ by_stage g.next r s →
-      record_of r s ≡ (o.after.greeted, o.after.opened)
+      record_after r s ≡ (o.after.greeted, o.after.opened)
   same_record r o e = ap (λ o. (o.after.greeted, o.after.opened)) (sym e)
 
   same_chip : (r : Request) (o : Outcome g.View (Unit {0})) → o ≡ by_stage g.next r s →
       told g.next s.chip (samples_of r s) ≡ o.after.chip
   same_chip r o e = ap (λ o. o.after.chip) (sym e)
 
-  pub answer_of-greet : answer_of Greet s ≡ (calls.greet g.next s).answer
-  answer_of-greet = same_answer Greet _ (greet-by_stage g.next s)
+  pub answer_to-greet : answer_to Greet s ≡ (calls.greet g.next s).answer
+  answer_to-greet = same_answer Greet _ (greet-by_stage g.next s)
 
-  pub record_of-greet : let t = (calls.greet g.next s).after in record_of Greet s ≡ (t.greeted, t.opened)
-  record_of-greet = same_record Greet _ (greet-by_stage g.next s)
+  pub record_after-greet : let t = (calls.greet g.next s).after in record_after Greet s ≡ (t.greeted, t.opened)
+  record_after-greet = same_record Greet _ (greet-by_stage g.next s)
 
   pub told-greet : told g.next s.chip (samples_of Greet s) ≡ (calls.greet g.next s).after.chip
   told-greet = same_chip Greet _ (greet-by_stage g.next s)
 
-  pub answer_of-settle : answer_of Settle s ≡ (calls.settle g.next s).answer
-  answer_of-settle = same_answer Settle _ (settle-by_stage g.next s)
+  pub answer_to-settle : answer_to Settle s ≡ (calls.settle g.next s).answer
+  answer_to-settle = same_answer Settle _ (settle-by_stage g.next s)
 
-  pub record_of-settle : let t = (calls.settle g.next s).after in record_of Settle s ≡ (t.greeted, t.opened)
-  record_of-settle = same_record Settle _ (settle-by_stage g.next s)
+  pub record_after-settle : let t = (calls.settle g.next s).after in record_after Settle s ≡ (t.greeted, t.opened)
+  record_after-settle = same_record Settle _ (settle-by_stage g.next s)
 
   pub told-settle : told g.next s.chip (samples_of Settle s) ≡ (calls.settle g.next s).after.chip
   told-settle = same_chip Settle _ (settle-by_stage g.next s)
 
-  pub answer_of-turn : (opened : Bool) (i : Instruction) →
-      answer_of (Turn opened i) s ≡ (calls.turned g.next opened i s).answer
-  answer_of-turn opened i = same_answer (Turn opened i) _ (turned-by_stage g.next opened i s)
+  pub answer_to-turn : (opened : Bool) (i : Instruction) →
+      answer_to (Turn opened i) s ≡ (calls.turned g.next opened i s).answer
+  answer_to-turn opened i = same_answer (Turn opened i) _ (turned-by_stage g.next opened i s)
 
-  pub record_of-turn : (opened : Bool) (i : Instruction) →
-      let t = (calls.turned g.next opened i s).after in record_of (Turn opened i) s ≡ (t.greeted, t.opened)
-  record_of-turn opened i = same_record (Turn opened i) _ (turned-by_stage g.next opened i s)
+  pub record_after-turn : (opened : Bool) (i : Instruction) →
+      let t = (calls.turned g.next opened i s).after in record_after (Turn opened i) s ≡ (t.greeted, t.opened)
+  record_after-turn opened i = same_record (Turn opened i) _ (turned-by_stage g.next opened i s)
 
   pub told-turn : (opened : Bool) (i : Instruction) →
       told g.next s.chip (samples_of (Turn opened i) s) ≡ (calls.turned g.next opened i s).after.chip
   told-turn opened i = same_chip (Turn opened i) _ (turned-by_stage g.next opened i s)
 
-  pub answer_of-fetch : (address count : ℕ) →
-      answer_of (Fetch address count) s ≡ (run_words g.next address count s).answer
-  answer_of-fetch address count = same_answer (Fetch address count) _ (run_words-by_stage g.next address count s)
+  pub answer_to-fetch : (address count : ℕ) →
+      answer_to (Fetch address count) s ≡ (run_words g.next address count s).answer
+  answer_to-fetch address count = same_answer (Fetch address count) _ (run_words-by_stage g.next address count s)
 
-  pub record_of-fetch : (address count : ℕ) →
-      let t = (run_words g.next address count s).after in record_of (Fetch address count) s ≡ (t.greeted, t.opened)
-  record_of-fetch address count = same_record (Fetch address count) _ (run_words-by_stage g.next address count s)
+  pub record_after-fetch : (address count : ℕ) →
+      let t = (run_words g.next address count s).after in record_after (Fetch address count) s ≡ (t.greeted, t.opened)
+  record_after-fetch address count = same_record (Fetch address count) _ (run_words-by_stage g.next address count s)
 
   pub told-fetch : (address count : ℕ) →
       told g.next s.chip (samples_of (Fetch address count) s) ≡ (run_words g.next address count s).after.chip
   told-fetch address count = same_chip (Fetch address count) _ (run_words-by_stage g.next address count s)
 
-  pub answer_of-change : (i : Instruction) →
-      answer_of (Change i) s ≡ (calls.changed g.next i s).answer
-  answer_of-change i = same_answer (Change i) _ (changed-by_stage g.next i s)
+  pub answer_to-change : (i : Instruction) →
+      answer_to (Change i) s ≡ (calls.changed g.next i s).answer
+  answer_to-change i = same_answer (Change i) _ (changed-by_stage g.next i s)
 
-  pub record_of-change : (i : Instruction) →
-      let t = (calls.changed g.next i s).after in record_of (Change i) s ≡ (t.greeted, t.opened)
-  record_of-change i = same_record (Change i) _ (changed-by_stage g.next i s)
+  pub record_after-change : (i : Instruction) →
+      let t = (calls.changed g.next i s).after in record_after (Change i) s ≡ (t.greeted, t.opened)
+  record_after-change i = same_record (Change i) _ (changed-by_stage g.next i s)
 
   pub told-change : (i : Instruction) →
       told g.next s.chip (samples_of (Change i) s) ≡ (calls.changed g.next i s).after.chip
@@ -85,14 +85,14 @@ module _ {C : Type 0} (g : Ghosts C) (d : Driver C) where
   pub words_of-fetch : (address count : ℕ) → words_of address count s ≡ calls.filled_by (calls.fetched g.next address count s).answer []
   words_of-fetch address count = words_of-fetched g.next address count s
 
-pub ruleset greeting = (answer_of-greet, record_of-greet, told-greet)
+pub ruleset greeting = (answer_to-greet, record_after-greet, told-greet)
 
-pub ruleset settling = (answer_of-settle, record_of-settle, told-settle)
+pub ruleset settling = (answer_to-settle, record_after-settle, told-settle)
 
-pub ruleset turning = (answer_of-turn, record_of-turn, told-turn)
+pub ruleset turning = (answer_to-turn, record_after-turn, told-turn)
 
-pub ruleset fetching = (answer_of-fetch, record_of-fetch, told-fetch, words_of-fetch)
+pub ruleset fetching = (answer_to-fetch, record_after-fetch, told-fetch, words_of-fetch)
 
-pub ruleset changing = (answer_of-change, record_of-change, told-change)
+pub ruleset changing = (answer_to-change, record_after-change, told-change)
 
 pub ruleset readiness = (poll_ready_iff, nat_tests)

@@ -95,8 +95,8 @@ answer_at Polled = Err (refusal Busy 0)
 answer_at Started = Err (refusal Unfinished 0)
 answer_at Finished = Ok tt
 
-abbrev pub answer_of : {V : Type 0} → Request → State V → Checked
-answer_of r s = answer_at (stage_of r s)
+abbrev pub answer_to : {V : Type 0} → Request → State V → Checked
+answer_to r s = answer_at (stage_of r s)
 
 abbrev pub is_finished : Stage → Bool
 is_finished (Refused e) = false
@@ -113,8 +113,8 @@ record_by (Fetch address count) greeted opened = (greeted, opened)
 record_by (Change i) greeted opened = (greeted, opened)
 
 -- A call that is not finished leaves it.
-abbrev pub record_of : {V : Type 0} → Request → State V → Bool × Bool
-record_of r s = if is_finished (stage_of r s) then record_by r s.greeted s.opened else (s.greeted, s.opened)
+abbrev pub record_after : {V : Type 0} → Request → State V → Bool × Bool
+record_after r s = if is_finished (stage_of r s) then record_by r s.greeted s.opened else (s.greeted, s.opened)
 
 -- Exactly the samples that it sends: none if it is refused; those up to the end of the first polling if that finds
 -- the chip still programming; and else also the frame, and the second polling of a change.
@@ -141,8 +141,8 @@ words_of address count s =
 -- A driver was asked for this, went from one state to another, and answered: as far as the call came, and its chip,
 -- whatever that keeps of samples, went on by exactly these samples.
 pub record Follows {C : Type 0} (g : Ghosts C) (r : Request) (before after : Driver C) (result : Checked) : Type 0 where
-  pub answer : result ≡ answer_of r (held g before)
-  pub records : (after.greeted, after.opened) ≡ record_of r (held g before)
+  pub answer : result ≡ answer_to r (held g before)
+  pub records : (after.greeted, after.opened) ≡ record_after r (held g before)
   pub sent : Sends g before.chip after.chip (samples_of r (held g before))
 
 -- A settle that is let through, of a chip at rest, answers 14 exactly where the cycle has more than 4,096 samples left.

@@ -28,13 +28,13 @@ use Rattle.traces.specs.declared.entry.Entry.{Entry}
 use Rattle.traces.specs.Entries.{entries_of}
 
 -- A clock: CS is high now and before, SK is high now and low before.
-abbrev pub is_clock : Put → Put → Bool
-is_clock before now = before.cs && now.cs && (not before.sk && now.sk)
+abbrev pub is_clock_from : Put → Put → Bool
+is_clock_from before now = before.cs && now.cs && (not before.sk && now.sk)
 
 -- how many clocks are among samples that come after one
 abbrev pub clocks_after : Put → List Put → ℕ
 clocks_after before [] = 0
-clocks_after before (now ∷ later) = (if is_clock before now then 1 else 0) + clocks_after now later
+clocks_after before (now ∷ later) = (if is_clock_from before now then 1 else 0) + clocks_after now later
 
 -- before the first sample all levels are low
 abbrev pub clock_count : List Put → ℕ

@@ -81,7 +81,7 @@ module _ {L V M W : Type 0} (next : V → Pins → Put → V) (twin_next : W →
         rw (← f) (
           refl,
           c ∙ ap (λ (z : Seen (L × V)). record { view = z.view.1; pins = z.pins }) (ends t (p.ends ∙ ap (end_from both calls) h)).0
-          ∙ sym (end_is_told next calls x),
+              ∙ sym (end_is_told next calls x),
           rw from at p.answered,
           rw from at p.handed,
         )

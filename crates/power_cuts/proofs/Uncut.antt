@@ -54,8 +54,10 @@ module _ {V W : Type 0} (next : V → Pins → Put → V) (twin_next : W → Pin
     where
       t : State (Twinned V W)
       t = after x s
+
       more : ℕ
       more = whole_of xs (performed unseen x (bare s)).after (s.chip.view.left - count x s)
+
       by : (b : Bool) → t.chip.view.cut ≡ b → (t.chip.view.cut ≡ false → uncut_count both xs t ≡ whole_of xs (bare t) t.chip.view.left) →
           (if t.chip.view.cut then 0 else 1) + uncut_count both xs t ≡ (if b then 0 else suc more)
       by true c counts = ap (λ d. (if d then 0 else 1) + uncut_count both xs t) c ∙ ap (λ n. 0 + n) (cut_stays xs t c)

@@ -118,8 +118,10 @@ cuts (x ∷ xs) s k sound = by (nat_lt k n) refl (cuts xs (performed unseen x s)
   where
     n : ℕ
     n = length (samples_of (request_of x) s)
+
     rest : ℕ
     rest = whole_of xs (performed unseen x s).after (k - n)
+
     by : (b : Bool) → nat_lt k n ≡ b → CutAt xs (performed unseen x s).after (k - n) rest → CutAt (x ∷ xs) s k (if b then 0 else suc rest)
     by true e c = none_whole x xs s sound k (ltb-true k n e)
     by false e c = first_whole x xs s sound k (grind (arith, nat_tests)) rest c

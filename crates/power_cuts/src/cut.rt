@@ -48,14 +48,10 @@ pub fn perform_with_cut<C: Chip, D: Chip>(
     told: &mut Told,
 ) -> Result<usize, Refusal>
     ensures performs { PerformsIf C.Chip (has_room calls.now told.old) calls.now chip.old chip.new told.old told.new }
-    ensures sent {
-        Sends D.Chip twin.old twin.new (if has_room calls.now told.old then take samples (samples_from calls.now (C.Chip.meaning chip.old)) else [])
-    }
+    ensures sent { Sends D.Chip twin.old twin.new (if has_room calls.now told.old then take samples (samples_from calls.now (C.Chip.meaning chip.old)) else []) }
     ensures whole { CountsWhole (has_room calls.now told.old) calls.now (C.Chip.meaning chip.old) samples result }
-    ensures bytes {
-        D.Chip.meaning twin.old ≡ C.Chip.meaning chip.old
-        → IfOk result (λ n. HasBytesOfWhole calls.now (C.Chip.meaning chip.old) n (D.Chip.meaning twin.new))
-    }
+    ensures bytes { D.Chip.meaning twin.old ≡ C.Chip.meaning chip.old
+        → IfOk result (λ n. HasBytesOfWhole calls.now (C.Chip.meaning chip.old) n (D.Chip.meaning twin.new)) }
 {
     // facts promises that the chip fits, on which the law of the bytes rests
     let _ = chip.facts();

@@ -10,13 +10,13 @@ use Rattle.chips.specs.Machine.{cell_value, set_cell, fill_cells}
 use Rattle.chips.specs.Pins.{Pins, Put, put_on}
 use Rattle.wire.specs.Frames.{idle, ending, plain_frame, read_opening, clocks}
 use Rattle.wire.specs.Runs.{run}
-use Rattle.wire.specs.Polling.{polls, is_ready}
+use Rattle.wire.specs.Polling.{most_tries, polls, is_ready}
 use Rattle.wire.specs.Hearing.{heard, after_bits, words_heard, cells_from}
 use Rattle.wire.specs.Places.{width_on, left_on, Rest, Ready, Sendable, resting, carried_out, reading}
 
 -- Polling finds a resting chip still programming exactly where left is above 4,096.
 abbrev pub PollReadyIff : Type 0
-PollReadyIff = (p : Pins) → Rest p → is_ready p ≡ nat_le (left_on p) 4096
+PollReadyIff = (p : Pins) → Rest p → is_ready p ≡ nat_le (left_on p) most_tries
 
 -- Afterwards the chip is at rest again, and left is what is left.
 abbrev pub PollRests : Type 0
