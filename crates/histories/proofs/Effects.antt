@@ -1,5 +1,5 @@
 -- What each call makes of a driver and its chip.
-use Rattle.std.proofs.Common.{◌≡◌, ℕ, Bool, true, false, cond, ◌⊎◌, List, [], Some, None, Ok, Err, sym, refl, ap, ◌∙◌, subst, inl, inr, zero-le, le_refl, arith}
+use Rattle.std.proofs.Common.{◌≡◌, ℕ, Bool, true, false, cond, ◌⊎◌, List, [], ◌∷◌, Some, None, Ok, Err, sym, refl, ap, ◌∙◌, subst, inl, inr, zero-le, le_refl, arith}
 use Rattle.std.proofs.lemmas.Bool.{both_ways, false≢true}
 use Rattle.protocol.specs.declared.instruction.Instruction.{Instruction}
 use Rattle.protocol.specs.declared.instruction.Instruction.TheVariants as instruction
@@ -10,13 +10,13 @@ use Rattle.protocol.specs.Parts.{ones_of}
 use Rattle.protocol.specs.Refusals.{refusal}
 use Rattle.protocol.proofs.Table.{agreed}
 use Rattle.chips.specs.Fitting.{Fits, Fitting}
-use Rattle.chips.specs.Pins.{Pins, put_on, pe_on}
+use Rattle.chips.specs.Pins.{Pins, Put, put_on, pe_on}
 use Rattle.wire.specs.Frames.{idle}
 use Rattle.wire.specs.Places.{width_on, Rest, placed, rest_state, resting, carried_out}
 use Rattle.wire.proofs.Cells.{cells_within}
 use Rattle.wire.proofs.Resting.{idle-rests}
 use Rattle.driver.specs.Checks.{Checked, greetable, admitted, changeable}
-use Rattle.driver.specs.Outcome.{Outcome, state, outcome, bind, noted}
+use Rattle.driver.specs.Outcome.{State, Outcome, state, outcome, bind, sent, noted}
 use Rattle.driver.specs.Calls as calls
 use Rattle.histories.specs.declared.call.Call.{Call}
 use Rattle.histories.specs.declared.call.Call.TheVariants.{Greet, Settle, Open, Shut, Read, Run, Write, Erase, Fill, Clear}
@@ -24,11 +24,17 @@ use Rattle.histories.specs.Events.{Answer, Yield, plain, handed, performed, even
 use Rattle.histories.specs.Book.{is_unfinished, is_done, is_accepted, changed_book, first_book}
 use Rattle.histories.specs.Alike.{is_programming, was_programming}
 use Rattle.histories.proofs.Cells.{all_cells, set_all, fill_all}
-use Rattle.histories.proofs.Views.{greeted, greets}
 use Rattle.histories.proofs.Checks.{check_of, request_of, Admitted, admitted_finds, changeable_finds, sendable, check_early}
 use Rattle.histories.proofs.Keeping.{call_later}
 use Rattle.histories.proofs.Sending.{Driver, at, polled_ways, rest-placed, ready_at, frame_sent, words_in, fits-resting, words_read, read_sent}
 use Rattle.histories.proofs.Sending.{changed_bytes, change_carried, idle-resting, idle-sent}
+
+-- a greet from the polling on, and from the idle sample on
+abbrev greeted : {V : Type 0} (next : V → Pins → Put → V) → State V → Outcome V (Unit {0})
+greeted next s = outcome (Ok tt) (noted true false (calls.sent_frame next instruction.Wds s))
+
+abbrev greets : {V : Type 0} (next : V → Pins → Put → V) → State V → Outcome V (Unit {0})
+greets next s = bind (calls.polled next Busy (sent next (idle ∷ []) s)) (λ _ s₁. greeted next s₁)
 
 abbrev pub yield : Answer → List ℕ → Driver → Yield (Unit {0})
 yield answer words after = record { answer = answer; words = words; after = after }
