@@ -1,5 +1,5 @@
 //! Calls performed on two chips, and a trace replayed: the laws over whole histories on one call.
-ghost use Rattle.std.specs.Prelude.{◌≡◌, Ok};
+ghost use Rattle.std.specs.Prelude.{◌≡◌, true};
 ghost use Rattle.histories.specs.Both.{both_fit, checked, Replayed, Accounted};
 ghost use Rattle.histories.specs.Performing.{has_room, PerformsIf};
 ghost use Rattle.histories.specs.Told.{CountedTold, TruthfulTold, BelievedTold, BusyTold, AlikeTold};
@@ -35,8 +35,8 @@ pub fn perform_on_both<C: Chip, D: Chip>(
 ) -> Result<(), Refusal>
     ensures one_performs { PerformsIf C.Chip (has_room calls.now one_told.old) calls.now one.old one.new one_told.old one_told.new }
     ensures other_performs { PerformsIf D.Chip (both_fit calls.now one_told.old other_told.old) calls.now other.old other.new other_told.old other_told.new }
-    ensures one_counted { result ≡ Ok tt → CountedTold C.Chip calls.now one.old one_told.old one_told.new }
-    ensures other_counted { result ≡ Ok tt → CountedTold D.Chip calls.now other.old other_told.old other_told.new }
+    ensures one_counted { has_room calls.now one_told.old ≡ true → CountedTold C.Chip calls.now one.old one_told.old one_told.new }
+    ensures other_counted { both_fit calls.now one_told.old other_told.old ≡ true → CountedTold D.Chip calls.now other.old other_told.old other_told.new }
     ensures one_truthful { TruthfulTold C.Chip calls.now one.old one_told.old one_told.new }
     ensures other_truthful { TruthfulTold D.Chip calls.now other.old other_told.old other_told.new }
     ensures one_believed { BelievedTold C.Chip calls.now one.old one.new one_told.old one_told.new }
