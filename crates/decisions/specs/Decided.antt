@@ -117,7 +117,7 @@ unfoldable pub is_unselected : List Put → Bool
 is_unselected [] = true
 is_unselected (x ∷ xs) = not x.cs && is_unselected xs
 
--- A chip whose CS is low owes nothing: so every chip at rest, and every chip after a sample.
+-- A chip whose CS is low owes nothing: so every chip at rest, and every chip that is no blank after a sample.
 abbrev pub Settled : Pins → Type 0
 Settled p = p.machine.state.cs ≡ false → owes p.machine.state.phase ≡ false
 

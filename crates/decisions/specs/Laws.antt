@@ -125,7 +125,7 @@ abbrev pub FrameDecides : Type 0
 FrameDecides = (p : Pins) (i : Sent) → Ready p → Sendable p (address_in i) (value_in i) →
     decisions_of p (frame_on p i) ≡ decision_by p i ∷ []
 
--- It carries the instruction out and leaves the chip at rest.
+-- It carries the instruction out, or turns it down where its decision says so, and leaves the chip at rest.
 abbrev pub FrameEnds : Type 0
 FrameEnds = (p : Pins) (i : Sent) → Ready p → Sendable p (address_in i) (value_in i) → run p (frame_on p i) ≡ carried_by p i
 
@@ -146,7 +146,7 @@ TakeChange = (p : Pins) (i : Sent) (k : ℕ) → Ready p → Sendable p (address
     (run p (take k (frame_on p i))).machine.bytes
     ≡ (if nat_lt (decided_at p i 0) k then (carried_by p i).machine.bytes else p.machine.bytes)
 
--- A chip that is programming as a frame begins hears nothing of it.
+-- A chip that is programming as a frame begins, with more than one sample left, hears nothing of it.
 abbrev pub BusyFrame : Type 0
 BusyFrame = (place : ℕ) (p : Pins) (i : Sent) → Rest p → 1 < left_on p → notes place p (frame_on p i) ≡ []
 

@@ -78,10 +78,11 @@ abbrev pub PerformsOn : {C : Type 0} → Ghosts C → List Call → C → C → 
 PerformsOn g calls chip chip' old new r =
     Performs g.next (has_room calls old) calls (seen g.view g.meaning chip) (seen g.view g.meaning chip') old new r
 
--- the same where a test says whether they are performed
+-- the answer of a test for room
 abbrev pub room_answer : Bool → Result (Unit {0}) Refusal
 room_answer fit = cond fit (Ok tt) (Err (refusal NoRoom 0))
 
+-- the same of a chip, where a test says whether the calls are performed
 abbrev pub PerformsIf : {C : Type 0} → Ghosts C → Bool → List Call → C → C → Told → Told → Type 0
 PerformsIf g fit calls chip chip' old new =
     Performs g.next fit calls (seen g.view g.meaning chip) (seen g.view g.meaning chip') old new (room_answer fit)
