@@ -30,7 +30,8 @@ IdleRests = (p : Pins) → p.blank ≡ false → Rest (put_on p idle)
 abbrev pub PutKeepsFits : Type 0
 PutKeepsFits = (p : Pins) (x : Put) → p.blank ≡ false → Fits p → Fits (put_on p x)
 
--- A frame of exact length, sent to a ready chip, carries its instruction out once and leaves the chip at rest.
+-- A frame of exact length, sent to a ready chip, has its instruction decided once, which is carried out or turned down, and leaves
+-- the chip at rest.
 abbrev pub FrameCarriesOut : Type 0
 FrameCarriesOut = (p : Pins) (kind : Kind) (address value : ℕ) → Ready p → Sendable p address value → is_read kind ≡ false →
     run p (plain_frame p.machine.setup.part (width_on p) kind address value) ≡ carried_out p kind address value
