@@ -97,7 +97,7 @@ fn run(rt: &HostRuntime) -> anyhow::Result<()> {
         "a {PART} of the fall edition powers up, all cells 65535; a write takes {write} samples"
     )?;
     println!(rt; "cut whole cells 0 to 2, last whole call")?;
-    for samples in (0..MOST + 1).step_by(STEP) {
+    for samples in (0..=MOST).step_by(STEP) {
         print_cut(rt, samples)?;
     }
     Ok(())
