@@ -1,5 +1,7 @@
 -- A history goes on by the samples of its calls.
-use Rattle.std.proofs.Common.{◌≡◌, false, List, [], ◌∷◌, sym, refl, ap, ◌∙◌}
+use Rattle.std.proofs.Common.{◌≡◌, Bool, true, false, List, [], ◌∷◌, Ok, Result, sym, refl, ap, ◌∙◌}
+use Rattle.protocol.specs.declared.refusal.Refusal.{Refusal}
+use Rattle.protocol.proofs.Passed.{ok_not_err}
 use Rattle.chips.specs.Pins.{Pins, Put}
 use Rattle.chips.specs.Seen.{Seen}
 use Rattle.wire.specs.Sent.{told}
@@ -7,9 +9,11 @@ use Rattle.wire.proofs.Tells.{told-append}
 use Rattle.driver.specs.Cases.{stage_of, samples_of}
 use Rattle.driver.specs.Outcome.{State, state}
 use Rattle.histories.specs.declared.call.Call.{Call}
-use Rattle.histories.specs.Events.{performed, end_from, unseen}
+use Rattle.histories.specs.declared.told.Told.{Told}
+use Rattle.histories.specs.Events.{performed, end_from, end_of, unseen}
+use Rattle.histories.specs.Performing.{Performs}
 use Rattle.histories.specs.Requests.{request_of}
-use Rattle.histories.specs.Samples.{samples_of_calls, EndIsTold}
+use Rattle.histories.specs.Samples.{samples_of_calls, samples_from}
 use Rattle.histories.proofs.Requests.{performed-by_stage}
 use Rattle.histories.proofs.Views.{state_by, performed-by}
 
@@ -36,5 +40,12 @@ module _ {V : Type 0} (next : V → Pins → Put → V) where
       ∙ ap (λ u. told next (told next s.chip (samples_of (request_of x) (bare s))) (samples_of_calls xs u)) (call-bare x s)
       ∙ sym (told-append next s.chip (samples_of (request_of x) (bare s)) (samples_of_calls xs (performed unseen x (bare s)).after))
 
-pub end_is_told : {V : Type 0} (next : V → Pins → Put → V) (calls : List Call) (chip : Seen V) → EndIsTold next calls chip
+pub end_is_told : {V : Type 0} (next : V → Pins → Put → V) (calls : List Call) (chip : Seen V) →
+    end_of next calls chip ≡ told next chip (samples_from calls chip.pins)
 end_is_told next calls chip = from_told next calls (state false false chip)
+
+-- where all calls are performed, exactly these samples were sent
+pub sends : {V : Type 0} (next : V → Pins → Put → V) (fit : Bool) (calls : List Call) (chip chip' : Seen V) (old new : Told)
+    (r : Result (Unit {0}) Refusal) → Performs next fit calls chip chip' old new r → r ≡ Ok tt → chip' ≡ told next chip (samples_from calls chip.pins)
+sends next true calls chip chip' old new r h ok = h.1 ∙ end_is_told next calls chip
+sends next false calls chip chip' old new r h ok = absurd (ok_not_err tt _ (sym ok ∙ h.0))

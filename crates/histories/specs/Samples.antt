@@ -1,12 +1,10 @@
 -- The samples of a history: those that its calls send, one after the other.
-use Rattle.std.specs.Prelude.{◌≡◌, false, List, [], ◌∷◌, ◌++◌}
+use Rattle.std.specs.Prelude.{false, List, [], ◌∷◌, ◌++◌}
 use Rattle.chips.specs.Pins.{Pins, Put}
-use Rattle.chips.specs.Seen.{Seen}
-use Rattle.wire.specs.Sent.{told}
 use Rattle.driver.specs.Cases.{samples_of}
 use Rattle.driver.specs.Outcome.{State, state}
 use Rattle.histories.specs.declared.call.Call.{Call}
-use Rattle.histories.specs.Events.{performed, end_of, unseen, bare_chip}
+use Rattle.histories.specs.Events.{performed, unseen, bare_chip}
 use Rattle.histories.specs.Requests.{request_of}
 
 -- each call by a driver as the calls before leave it
@@ -17,7 +15,3 @@ samples_of_calls (x ∷ xs) s = samples_of (request_of x) s ++ samples_of_calls 
 -- from a new driver on a chip of this meaning
 abbrev pub samples_from : List Call → Pins → List Put
 samples_from calls p = samples_of_calls calls (state false false (bare_chip p))
-
--- A history takes a chip, whatever that keeps of samples, on by exactly these.
-abbrev pub EndIsTold : {V : Type 0} → (V → Pins → Put → V) → List Call → Seen V → Type 0
-EndIsTold next calls chip = end_of next calls chip ≡ told next chip (samples_from calls chip.pins)

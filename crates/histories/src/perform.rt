@@ -2,9 +2,11 @@
 ghost use Rattle.std.specs.Prelude.{◌≡◌, ◌+◌, ◌≤◌, true, [], ◌∷◌, length, Ok, nat_le};
 ghost use Rattle.protocol.specs.Lists.{room};
 ghost use Rattle.chips.specs.Seen.{seen};
+ghost use Rattle.wire.specs.Sent.{Sends};
 ghost use Rattle.driver.specs.Held.{held};
 ghost use Rattle.histories.specs.Performing.{wanted_by, words_wanted, has_room, Performed, PerformsOn, PerformsNext, PerformedOne};
 ghost use Rattle.histories.specs.Recorded.{BytesAccounted};
+ghost use Rattle.histories.specs.Samples.{samples_from};
 ghost use Rattle.histories.specs.Told.{CountedTold, TruthfulTold, BelievedTold, BusyTold};
 
 use crate::call::Call;
@@ -139,6 +141,7 @@ pub fn perform<C: Chip>(chip: &mut C, calls: &[Call], told: &mut Told) -> Result
     ensures truthful { TruthfulTold C.Chip calls.now chip.old told.old told.new }
     ensures believed { BelievedTold C.Chip calls.now chip.old chip.new told.old told.new }
     ensures busy { BusyTold C.Chip calls.now chip.old told.old told.new }
+    ensures sent { result ≡ Ok tt → Sends C.Chip chip.old chip.new (samples_from calls.now (C.Chip.meaning chip.old)) }
     ensures recorded { result ≡ Ok tt → BytesAccounted calls.now (C.Chip.meaning chip.old) (C.Chip.meaning chip.new) }
 {
     // facts promises that the chip fits, on which the laws rest

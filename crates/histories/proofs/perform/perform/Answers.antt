@@ -1,6 +1,7 @@
 use Rattle.histories.proofs.Carried.{truthful, believed, busy}
 use Rattle.histories.proofs.Handed.{tells, counts}
 use Rattle.histories.proofs.Recorded.{recorded}
+use Rattle.histories.proofs.Samples.{sends}
 use Rattle.histories.proofs.perform.perform.Goals as goal
 
 pub returns-clause-truthful : goal.returns-clause-truthful
@@ -20,3 +21,6 @@ returns-clause-counted g c = counts g.C.Chip.next c.args.calls.now _ _ _ _ _ _ c
 
 pub returns-clause-recorded : goal.returns-clause-recorded
 returns-clause-recorded g c = recorded g.C.Chip.next _ c.args.calls.now _ _ _ _ _ c.perform_in_room.ensures
+
+pub returns-clause-sent : goal.returns-clause-sent
+returns-clause-sent g c = sends g.C.Chip.next _ c.args.calls.now _ _ _ _ _ c.perform_in_room.ensures
