@@ -23,8 +23,8 @@ use Rattle.decisions.proofs.Folding.{decisions_append, decisions_are_noted}
 use Rattle.decisions.proofs.Prefixes.{frame_decided, frame_rests}
 use Rattle.decisions.proofs.Still.{no_clock_decides_nothing, rest_owes_none, polling_has_no_clock}
 use Rattle.histories.proofs.Checks.{Admitted, admitted_finds, changeable_finds, sendable}
-use Rattle.histories.proofs.Effects.{Sound}
-use Rattle.power_cuts.proofs.Few.{few, few_none, no_changes, few_then, then_few}
+use Rattle.power_cuts.specs.Laws.{CallIsWhole}
+use Rattle.power_cuts.proofs.Few.{few, few_none, no_changes, few_then, then_few, few_cut}
 
 -- samples of which at most one, or none, decides a change
 abbrev IsFew : Pins → List Put → Type 0
@@ -90,12 +90,9 @@ at_stage_few (Ok u) false again p first more f g = f refl
 at_stage_few (Ok u) true true p first more f g = g refl refl
 at_stage_few (Ok u) true false p first more f g = g refl refl
 
-module _ (s : State (Unit {0})) (sound : Sound s) where
+module _ {V : Type 0} (s : State V) (rests : s.greeted ≡ true → Rest s.chip.pins) where
   abbrev p : Pins
   p = s.chip.pins
-
-  rests : s.greeted ≡ true → Rest p
-  rests g = (sound.held g).rest
 
   first_few : s.greeted ≡ true → IsFew p (polls p)
   first_few g = quiet_few p (polls p) (polls_quiet p (rests g))
@@ -173,3 +170,6 @@ module _ (s : State (Unit {0})) (sound : Sound s) where
   call_few (Turn opened i) = turn_few opened i
   call_few (Fetch address count) = fetch_few address count
   call_few (Change i) = change_few i
+
+pub call_is_whole : {V : Type 0} → CallIsWhole V
+call_is_whole r s k rests = few_cut s.chip.pins (samples_of r s) k (call_few s rests r)

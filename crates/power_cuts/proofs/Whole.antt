@@ -17,8 +17,7 @@ use Rattle.histories.specs.Events.{performed, end_from, unseen}
 use Rattle.histories.proofs.Effects.{Sound, sound_after}
 use Rattle.histories.specs.Requests.{request_of}
 use Rattle.histories.specs.Samples.{samples_of_calls}
-use Rattle.power_cuts.proofs.Few.{few_cut}
-use Rattle.power_cuts.proofs.Calls.{call_few}
+use Rattle.power_cuts.proofs.Calls.{call_is_whole}
 
 abbrev Driver : Type 0
 Driver = State (Unit {0})
@@ -83,7 +82,7 @@ module _ (x : Call) (xs : List Call) (s : Driver) (sound : Sound s) (k : ℕ) wh
       come = omega arith;
       cut = λ _. omega (arith, one_call);
       bytes =
-          elim (few_cut s.chip.pins first k (call_few s sound (request_of x))) [
+          elim (call_is_whole (request_of x) s k (λ g. (sound.held g).rest)) [
             | inl old ↦ inl (same_first ∙ old)
             | inr new ↦ inr (omega arith, same_first ∙ new ∙ ap (λ (o : Pins). o.machine.bytes) (sym (call_runs x s)))
           ];
