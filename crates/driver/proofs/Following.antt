@@ -14,7 +14,7 @@ use Rattle.wire.specs.Sent.{told}
 use Rattle.wire.proofs.Tells.{told-append, told-pins}
 use Rattle.driver.specs.Calls as calls
 use Rattle.driver.specs.Calls.{frame_on, words_on, found, as_done, filled_by}
-use Rattle.driver.specs.Cases.{Request, Greet, Settle, Turn, Fetch, Change, Stage, Started, Finished, stage_by, stage_of, answer_at, answer_to, is_finished, record_by, record_after, samples_at, samples_of, words_of}
+use Rattle.driver.specs.Cases.{Request, Greet, Settle, Latch, Fetch, Change, Stage, Started, Finished, stage_by, stage_of, answer_at, answer_to, is_finished, record_by, record_after, samples_at, samples_of, words_of}
 use Rattle.driver.specs.Checks.{Checked, greetable, admitted, changeable}
 use Rattle.driver.specs.Outcome.{State, Outcome, state, outcome, bind, sent, noted}
 use Rattle.driver.specs.Reads.{run_words}
@@ -102,10 +102,10 @@ module _ {V : Type 0} (next : V → Pins → Put → V) where
       by_check (Err e) = refl
       by_check (Ok u) = by_ready u (is_ready s.chip.pins)
 
-  pub turned-by_stage : (opened : Bool) (i : Instruction) (s : State V) → calls.turned next opened i s ≡ by_stage (Turn opened i) s
+  pub turned-by_stage : (opened : Bool) (i : Instruction) (s : State V) → calls.turned next opened i s ≡ by_stage (Latch opened i) s
   unfolding stage_of samples_of run
   turned-by_stage opened i s =
-      begun_then (λ r. r) (λ _. refl) _ (Turn opened i) (admitted s.chip.pins s.greeted i) s _ true
+      begun_then (λ r. r) (λ _. refl) _ (Latch opened i) (admitted s.chip.pins s.greeted i) s _ true
       (ap (λ t. outcome (Ok tt) (noted s.greeted opened t)) (frame_last i (polls s.chip.pins) s))
 
   pub run_words-by_stage : (address count : ℕ) (s : State V) → run_words next address count s ≡ by_stage (Fetch address count) s

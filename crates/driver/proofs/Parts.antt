@@ -7,7 +7,7 @@ use Rattle.wire.specs.Sent.{told}
 use Rattle.wire.proofs.Polls.{poll_ready_iff}
 use Rattle.driver.specs.declared.driver.Driver.{Driver}
 use Rattle.driver.specs.Calls as calls
-use Rattle.driver.specs.Cases.{Request, Greet, Settle, Turn, Fetch, Change, answer_to, record_after, samples_of, words_of}
+use Rattle.driver.specs.Cases.{Request, Greet, Settle, Latch, Fetch, Change, answer_to, record_after, samples_of, words_of}
 use Rattle.driver.specs.Held.{held}
 use Rattle.driver.specs.Outcome.{State, Outcome}
 use Rattle.driver.specs.Reads.{run_words}
@@ -47,16 +47,16 @@ module _ {C : Type 0} (g : Ghosts C) (d : Driver C) where
   told-settle = same_chip Settle _ (settle-by_stage g.next s)
 
   pub answer_to-turn : (opened : Bool) (i : Instruction) →
-      answer_to (Turn opened i) s ≡ (calls.turned g.next opened i s).answer
-  answer_to-turn opened i = same_answer (Turn opened i) _ (turned-by_stage g.next opened i s)
+      answer_to (Latch opened i) s ≡ (calls.turned g.next opened i s).answer
+  answer_to-turn opened i = same_answer (Latch opened i) _ (turned-by_stage g.next opened i s)
 
   pub record_after-turn : (opened : Bool) (i : Instruction) →
-      let t = (calls.turned g.next opened i s).after in record_after (Turn opened i) s ≡ (t.greeted, t.opened)
-  record_after-turn opened i = same_record (Turn opened i) _ (turned-by_stage g.next opened i s)
+      let t = (calls.turned g.next opened i s).after in record_after (Latch opened i) s ≡ (t.greeted, t.opened)
+  record_after-turn opened i = same_record (Latch opened i) _ (turned-by_stage g.next opened i s)
 
   pub told-turn : (opened : Bool) (i : Instruction) →
-      told g.next s.chip (samples_of (Turn opened i) s) ≡ (calls.turned g.next opened i s).after.chip
-  told-turn opened i = same_chip (Turn opened i) _ (turned-by_stage g.next opened i s)
+      told g.next s.chip (samples_of (Latch opened i) s) ≡ (calls.turned g.next opened i s).after.chip
+  told-turn opened i = same_chip (Latch opened i) _ (turned-by_stage g.next opened i s)
 
   pub answer_to-fetch : (address count : ℕ) →
       answer_to (Fetch address count) s ≡ (run_words g.next address count s).answer

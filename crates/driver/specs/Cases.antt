@@ -19,12 +19,12 @@ use Rattle.driver.specs.Checks.{Checked, greetable, admitted, changeable}
 use Rattle.driver.specs.Held.{held}
 use Rattle.driver.specs.Outcome.{State}
 
--- What a driver is asked for. A turn is open or shut: whether the driver then counts as open, and what it sends. A
+-- What a driver is asked for. A latch is open or shut: whether the driver then counts as open, and what it sends. A
 -- fetch is read or run: an address, and how many words. A change is write, erase, fill or clear.
 pub data Request : Type 0 where
   Greet : Request
   Settle : Request
-  Turn : (opened : Bool) (i : Instruction) → Request
+  Latch : (opened : Bool) (i : Instruction) → Request
   Fetch : (address count : ℕ) → Request
   Change : (i : Instruction) → Request
 
@@ -32,7 +32,7 @@ pub data Request : Type 0 where
 abbrev pub check_of : Request → Pins → Bool → Bool → Checked
 check_of Greet p greeted opened = greetable p
 check_of Settle p greeted opened = admitted p greeted Wds
-check_of (Turn turned i) p greeted opened = admitted p greeted i
+check_of (Latch turned i) p greeted opened = admitted p greeted i
 check_of (Fetch address count) p greeted opened = admitted p greeted (Read address count)
 check_of (Change i) p greeted opened = changeable p greeted opened i
 
@@ -40,7 +40,7 @@ check_of (Change i) p greeted opened = changeable p greeted opened i
 abbrev pub lead_of : Request → List Put
 lead_of Greet = idle ∷ []
 lead_of Settle = []
-lead_of (Turn turned i) = []
+lead_of (Latch turned i) = []
 lead_of (Fetch address count) = []
 lead_of (Change i) = []
 
@@ -48,7 +48,7 @@ lead_of (Change i) = []
 abbrev pub frame_by : Request → Pins → List Put
 frame_by Greet p = frame_on p Wds
 frame_by Settle p = []
-frame_by (Turn turned i) p = frame_on p i
+frame_by (Latch turned i) p = frame_on p i
 frame_by (Fetch address count) p = frame_on p (Read address count)
 frame_by (Change i) p = frame_on p i
 
@@ -56,7 +56,7 @@ frame_by (Change i) p = frame_on p i
 abbrev pub polls_twice : Request → Bool
 polls_twice Greet = false
 polls_twice Settle = false
-polls_twice (Turn turned i) = false
+polls_twice (Latch turned i) = false
 polls_twice (Fetch address count) = false
 polls_twice (Change i) = true
 
@@ -108,7 +108,7 @@ is_finished Finished = true
 abbrev pub record_by : Request → Bool → Bool → Bool × Bool
 record_by Greet greeted opened = (true, false)
 record_by Settle greeted opened = (greeted, opened)
-record_by (Turn turned i) greeted opened = (greeted, turned)
+record_by (Latch turned i) greeted opened = (greeted, turned)
 record_by (Fetch address count) greeted opened = (greeted, opened)
 record_by (Change i) greeted opened = (greeted, opened)
 
@@ -142,7 +142,7 @@ words_of address count s =
 -- whatever that keeps of samples, went on by exactly these samples.
 pub record Follows {C : Type 0} (g : Ghosts C) (r : Request) (before after : Driver C) (result : Checked) : Type 0 where
   pub answer : result ≡ answer_to r (held g before)
-  pub records : (after.greeted, after.opened) ≡ record_after r (held g before)
+  pub records : ((held g after).greeted, (held g after).opened) ≡ record_after r (held g before)
   pub sent : Sends g before.chip after.chip (samples_of r (held g before))
 
 -- A settle that is let through, of a chip at rest, answers 14 exactly where the cycle has more than 4,096 samples left.

@@ -55,7 +55,7 @@ module _ (s : Driver) (sound : Sound s) where
   unfolding run
   first_told cases.Greet h = poll_ready_iff (put_on pins idle) (idle-rests pins (grind arith))
   first_told cases.Settle h = admitted-told instruction.Wds h
-  first_told (cases.Turn opened i) h = admitted-told i h
+  first_told (cases.Latch opened i) h = admitted-told i h
   first_told (cases.Fetch address count) h = admitted-told (instruction.Read address count) h
   first_told (cases.Change i) h = changeable-told i h
 

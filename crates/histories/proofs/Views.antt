@@ -3,7 +3,7 @@ use Rattle.std.proofs.Common.{◌≡◌, ℕ, List, [], ◌∷◌, refl, sym, ap
 use Rattle.chips.specs.Pins.{Pins, Put, put_on}
 use Rattle.chips.specs.Seen.{Seen, stepped}
 use Rattle.wire.specs.Sent.{told}
-use Rattle.driver.specs.Cases.{Request, Greet, Settle, Turn, Fetch, Change, stage_of, answer_to, record_after, samples_of, words_of}
+use Rattle.driver.specs.Cases.{Request, Greet, Settle, Latch, Fetch, Change, stage_of, answer_to, record_after, samples_of, words_of}
 use Rattle.driver.specs.Outcome.{State, Outcome, state, outcome}
 use Rattle.driver.proofs.Following.{by_stage, words_of-fetched}
 use Rattle.histories.specs.declared.call.Call.{Call}
@@ -27,7 +27,7 @@ module _ {V W : Type 0} (f : V → W) where
 abbrev words_by : {V : Type 0} → Request → State V → List ℕ
 words_by Greet s = []
 words_by Settle s = []
-words_by (Turn opened i) s = []
+words_by (Latch opened i) s = []
 words_by (Fetch address count) s = words_of address count s
 words_by (Change i) s = []
 
@@ -67,7 +67,7 @@ module _ {V W : Type 0} (f : V → W) (next : V → Pins → Put → V) (less : 
   unfolding words_of stage_of
   same_words Greet s = refl
   same_words Settle s = refl
-  same_words (Turn opened i) s = refl
+  same_words (Latch opened i) s = refl
   same_words (Fetch address count) s = refl
   same_words (Change i) s = refl
 

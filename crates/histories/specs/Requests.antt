@@ -9,8 +9,8 @@ use Rattle.histories.specs.declared.call.Call.TheVariants.{Greet, Settle, Open, 
 abbrev pub request_of : Call → Request
 request_of Greet = cases.Greet
 request_of Settle = cases.Settle
-request_of Open = cases.Turn true instruction.Wen
-request_of Shut = cases.Turn false instruction.Wds
+request_of Open = cases.Latch true instruction.Wen
+request_of Shut = cases.Latch false instruction.Wds
 request_of (Read address) = cases.Fetch address 1
 request_of (Run address count) = cases.Fetch address count
 request_of (Write address value) = cases.Change (instruction.Write address value)

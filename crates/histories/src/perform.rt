@@ -66,7 +66,6 @@ fn run_into<C: Chip>(
 }
 
 // Any call, with its words added to the list.
-// A call is data of which the laws speak, and this match says what it does: a closure in its place would say nothing.
 fn perform_one<C: Chip>(
     driver: &mut Driver<C>,
     call: Call,

@@ -7,7 +7,7 @@ ghost use Rattle.histories.specs.Performing.{has_room, Performed, PerformsIf};
 ghost use Rattle.histories.specs.Samples.{samples_from};
 ghost use Rattle.power_cuts.specs.Counting.{uncut_count};
 ghost use Rattle.power_cuts.specs.Cuts.{CountsWhole, HasBytesOfWhole};
-ghost use Rattle.power_cuts.specs.Laws.{CallIsWhole};
+ghost use Rattle.power_cuts.specs.Laws.{CallIsWhole, CallRests};
 ghost use Rattle.power_cuts.specs.Twin.{twin_after};
 
 use crate::twin::WithTwin;
@@ -68,11 +68,12 @@ pub fn perform_with_cut<C: Chip, D: Chip>(
     count_whole(&mut driver, calls, told)
 }
 
-// What a supply that fails within one call leaves, over any driver.
-#[tactic(auto, using(crate::proofs::Calls::call_is_whole))]
+// What one call leaves, and what a supply that fails within it leaves, over any driver.
+#[tactic(auto, using(crate::proofs::Calls::call_is_whole, crate::proofs::Calls::call_rests))]
 pub fn laws_of_calls<C: Chip>() -> bool
     ensures answer { result ≡ true }
     ensures whole { CallIsWhole C.Chip.View }
+    ensures rests { CallRests C.Chip.View }
 {
     true
 }

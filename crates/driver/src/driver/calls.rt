@@ -4,7 +4,7 @@ ghost use Rattle.std.specs.Result.{result_and};
 ghost use Rattle.protocol.specs.declared.instruction.Instruction.TheVariants.{Write, Erase, Wen, Wds, Eral, Wrall};
 ghost use Rattle.driver.specs.Calls.{polled, open_chip, shut_chip, turned, changed};
 ghost use Rattle.driver.specs.Calls as calls;
-ghost use Rattle.driver.specs.Cases.{Greet, Settle, Turn, Fetch, Change, words_of, Follows, BusyIffLong};
+ghost use Rattle.driver.specs.Cases.{Greet, Settle, Latch, Fetch, Change, words_of, Follows, BusyIffLong};
 ghost use Rattle.driver.specs.Held.{held};
 ghost use Rattle.driver.specs.Outcome.{outcome};
 ghost use Rattle.driver.specs.Reads.{read_word, run_words, filled};
@@ -67,7 +67,7 @@ impl<C: Chip> Driver<C> {
     #[tactic(auto, using(crate::proofs::Parts::turning))]
     pub fn open(&mut self) -> Result<(), Refusal>
         ensures outcome { outcome result (held C.Chip self.new) ≡ open_chip C.Chip.next (held C.Chip self.old) }
-        ensures follows { Follows C.Chip (Turn true Wen) self.old self.new result }
+        ensures follows { Follows C.Chip (Latch true Wen) self.old self.new result }
     {
         self.turn(true, Instruction::Wen)
     }
@@ -75,7 +75,7 @@ impl<C: Chip> Driver<C> {
     #[tactic(auto, using(crate::proofs::Parts::turning))]
     pub fn shut(&mut self) -> Result<(), Refusal>
         ensures outcome { outcome result (held C.Chip self.new) ≡ shut_chip C.Chip.next (held C.Chip self.old) }
-        ensures follows { Follows C.Chip (Turn false Wds) self.old self.new result }
+        ensures follows { Follows C.Chip (Latch false Wds) self.old self.new result }
     {
         self.turn(false, Instruction::Wds)
     }

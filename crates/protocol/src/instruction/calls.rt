@@ -20,7 +20,8 @@ impl Kind {
             0b00 if first == 0b11 => Kind::Wen,
             0b00 if first == 0b00 => Kind::Wds,
             0b00 if first == 0b10 => Kind::Eral,
-            // 0b00 with 0b01, and numbers that no two bits make
+            0b00 if first == 0b01 => Kind::Wrall,
+            // no two bits make another number
             _ => Kind::Wrall,
         }
     }
