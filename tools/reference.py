@@ -408,6 +408,8 @@ class Driver:
             address, value = (int(text) for text in given)
             self.frame("01" + f"{address:0{size}b}" + f"{value:016b}")
             assert self.poll()
+        else:
+            raise ValueError(f"no account of {name}")
 
 
 CUT_CALLS = ("greet", "open", "write 0 1000", "write 1 1001", "write 2 1002", "shut")

@@ -68,7 +68,7 @@ pub fn perform_with_cut<C: Chip, D: Chip>(
     count_whole(&mut driver, calls, told)
 }
 
-// What one call leaves, and what a supply that fails within it leaves, over any driver.
+// What one call leaves, and what a supply that fails within it leaves, of any driver whose chip, once greeted, is at rest.
 #[tactic(auto, using(crate::proofs::Calls::call_is_whole, crate::proofs::Calls::call_rests))]
 pub fn laws_of_calls<C: Chip>() -> bool
     ensures answer { result ≡ true }
