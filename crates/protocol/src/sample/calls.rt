@@ -1,5 +1,5 @@
 //! Samples as bytes.
-ghost use Rattle.std.specs.Prelude.{◌≡◌, max, fold};
+ghost use Rattle.std.specs.Prelude.{◌≡◌, ◌+◌, ◌≤◌, length, drop, max, fold};
 ghost use Rattle.std.specs.List.{position};
 ghost use Rattle.protocol.specs.Samples.{levels, strapped, byte_of, is_high, high_at, samples_checked};
 
@@ -8,6 +8,9 @@ use crate::sample::{Sample, Straps};
 
 // The highest byte of a sample.
 const MOST: u8 = 31;
+
+// How many bytes are compared at once.
+const BLOCK: usize = 256;
 
 // Bit 0 is CS, then SK, DI, ORG and PE; the other bits say nothing.
 impl From<u8> for Sample {
@@ -59,15 +62,40 @@ fn highest(samples: &[u8]) -> u8
     samples.iter().fold(0, |most: u8, byte| most.max(*byte))
 }
 
-// The place of the first byte above 31.
-#[tactic(auto, using(crate::proofs::High::none_high))]
+// How many bytes lie before the first block of which one is above 31, or all of them. The last block may be shorter.
+#[tactic(auto, using(crate::proofs::High::one_more))]
+fn low_blocks(samples: &[u8]) -> usize
+    ensures fits { result ≤ length samples.now }
+    ensures low { high_at samples.now ≡ result + high_at (drop result samples.now) }
+{
+    let mut place = 0;
+    while place < samples.len() {
+        let end = place + BLOCK.min(samples.len() - place);
+        if highest(&samples[place..end]) > MOST {
+            break;
+        }
+        place = end;
+    }
+    place
+}
+
+// The place of the first byte above 31, with each looked at by itself.
+fn next_high(samples: &[u8]) -> Option<usize>
+    ensures { result ≡ position is_high samples.now }
+{
+    samples.iter().position(|byte| *byte > MOST)
+}
+
+// The same. What comes before its block is looked at a block at a time, and nothing behind it.
+#[tactic(auto, using(crate::proofs::High::later_found, crate::proofs::High::none_found))]
 fn high_position(samples: &[u8]) -> Option<usize>
     ensures { result ≡ position is_high samples.now }
 {
-    if highest(samples) <= MOST {
-        return None;
+    let place = low_blocks(samples);
+    match next_high(&samples[place..]) {
+        Some(after) => Some(place + after),
+        None => None,
     }
-    samples.iter().position(|byte| *byte > MOST)
 }
 
 // The same, or the length: a public promise, of which an `Option` would be another.
