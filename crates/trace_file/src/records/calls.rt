@@ -1,6 +1,7 @@
 //! One record after the other.
 ghost use Rattle.std.specs.Prelude.{◌≡◌, length, Ok};
 ghost use Rattle.std.specs.Iterator.{at_most};
+ghost use Rattle.protocol.specs.Lists.{Adds};
 ghost use Rattle.trace_file.specs.Form.{bind, count_of, record_of};
 ghost use Rattle.trace_file.specs.Steps.{rest_of, count_read, record_read, next_read, samples_left, Next, AddsAll};
 
@@ -62,6 +63,16 @@ impl<'a> Iterator for Records<'a> {
     }
 }
 
+// Adds the samples of a record. It may have none, and then the list is not asked.
+fn add_record(list: &mut List<u8>, samples: &[u8]) -> Result<(), Refusal>
+    ensures { Adds list.old samples.now 0 list.new result }
+{
+    if samples.is_empty() {
+        return Ok(());
+    }
+    list.extend(samples, 0)
+}
+
 impl Records<'_> {
     // How many samples there are in all, where every record has its form.
     #[tactic(auto, using(crate::proofs::Passing::left_none, crate::proofs::Passing::left_bad))]
@@ -81,7 +92,7 @@ impl Records<'_> {
         ensures { AddsAll (samples_left (rest_of self.entry)) list.old list.new result }
     {
         for samples in self {
-            list.extend(samples?, 0)?;
+            add_record(list, samples?)?;
         }
         Ok(())
     }
