@@ -17,8 +17,9 @@ use Rattle.chips.specs.Fitting.{Fits}
 use Rattle.chips.specs.Machine.{cell_value, set_cell, fresh_machine}
 use Rattle.chips.specs.Pins.{Pins, Put, put_on, do_of}
 use Rattle.wire.specs.Frames.{idle, selected, ending, opening, joined, code_of, frame_of}
+use Rattle.wire.specs.Hearing.{cells_from}
 use Rattle.wire.specs.Places.{width_on, left_on, Rest, Ready}
-use Rattle.wire.specs.Polling.{ready_in}
+use Rattle.wire.specs.Polling.{most_tries, tries, ready_in}
 use Rattle.wire.specs.Runs.{run}
 use Rattle.driver.specs.Calls.{settle}
 use Rattle.driver.specs.Outcome.{State}
@@ -164,7 +165,10 @@ module _ {V : Type 0} where
     pub data_17_fall : entries_of (setup76 Fall) write_of_17_bits ≡ wen_at 28 ∷ wrong_count_at 91 ∷ []
     -- In the clock edition the WRITE is carried out at the 16th of them.
     pub data_17_clock : entries_of (setup76 Clock) write_of_17_bits ≡ wen_at 26 ∷ write_at 87 ∷ []
-    -- A run of two words from cell 1023 of an 86 at width 16 is done.
+    -- Two words from cell 1023 of an 86 at width 16 are those of cells 1023 and 0.
+    pub last_cells : (bytes : List ℕ) →
+        cells_from C86 Sixteen bytes 2 1023 ≡ cell_value Sixteen bytes 1023 ∷ cell_value Sixteen bytes 0 ∷ []
+    -- A run of these two is done.
     pub last_run : (s : State V) → IsReady86 s → (run_words next 1023 2 s).answer ≡ Ok tt
     -- The caller's two words become those of cells 1023 and 0.
     pub last_words : (s : State V) (first second : ℕ) → IsReady86 s →
@@ -192,6 +196,8 @@ module _ {V : Type 0} where
     pub left_4096_ready : (p : Pins) → Rest p → left_on p ≡ 4096 → ready_in 4096 p ≡ true
     -- It is not seen ready before.
     pub left_4096_before : (p : Pins) → Rest p → left_on p ≡ 4096 → ready_in 4095 p ≡ false
+    -- Polling then takes all its tries.
+    pub left_4096_tries : (p : Pins) → Rest p → left_on p ≡ 4096 → length (tries most_tries p) ≡ 4096
     -- With 4,097 samples left settle is refused, by 14: still programming.
     pub left_4097_busy : (s : State V) → HasLeft s 4097 → (settle next s).answer ≡ Err (refusal Busy 0)
     -- 0x1234 in cell 0 at width 16 is 0x34 in cell 1 at width 8.
